@@ -1,0 +1,116 @@
+// Agreement on the counting instances of one message: pick any, average, vote. The instances come in frame order.
+ghost use mathlib.Core.Path.{_≡_};
+ghost use mathlib.Core.Bool.{true};
+ghost use Prim.Native.Nat.{_≤_, _^_};
+ghost use lib.IntN.{natAbs};
+ghost use Rattle.whole.specs.Whole.{allOf};
+ghost use Rattle.agreement.specs.Agreement.{messageValue, group, sumOf, average, pickAny, countOf, ahead, vote, agreed};
+
+// What an agreement comes to.
+pub enum Agreed {
+    Value(i64),
+    NoResult,
+}
+
+// The instance with the lowest frame number, which is the first.
+fn pick_any(instances: &[i64]) -> Agreed
+    ensures { λ r. ⌜ r ≡ pickAny (now (instances .entry)) ⌝ }
+{
+    if instances.len() == 0 {
+        return Agreed::NoResult;
+    }
+    Agreed::Value(instances[0])
+}
+
+// Whether each instance is a value that some message holds: at most 32 bits, signed or not.
+fn all_values(instances: &[i64]) -> bool
+    ensures { λ r. ⌜ r ≡ allOf messageValue (now (instances .entry)) ⌝ }
+{
+    for j in 0..instances.len() {
+        let v = instances[j];
+        if (v < -2147483648) | (4294967295 < v) {
+            return false;
+        }
+    }
+    true
+}
+
+// The exact sum of a group's instances: eight of them need 36 bits.
+fn sum_of(instances: &[i64]) -> i64
+    requires { ⌜ group (now instances) ≡ true ⌝ }
+    ensures { λ r. ⌜ (r ≡ sumOf (now (instances .entry))) × (natAbs r ≤ 2 ^ 35) ⌝ }
+{
+    let mut s: i64 = 0;
+    for j in 0..instances.len() {
+        s += instances[j];
+    }
+    s
+}
+
+// The sum divided by the count, the fraction dropped toward zero.
+fn mean(instances: &[i64]) -> Agreed
+    ensures { λ r. ⌜ r ≡ average (now (instances .entry)) ⌝ }
+{
+    let n = instances.len();
+    if (n < 1) | (8 < n) {
+        return Agreed::NoResult;
+    }
+    if !all_values(instances) {
+        return Agreed::NoResult;
+    }
+    Agreed::Value(sum_of(instances) / (n as i64))
+}
+
+// How many instances carry a value.
+fn count_of(instances: &[i64], value: i64) -> usize
+    ensures { λ r. ⌜ r ≡ countOf value (now (instances .entry)) ⌝ }
+{
+    let mut c: usize = 0;
+    for k in 0..instances.len() {
+        if instances[k] == value {
+            c += 1;
+        }
+    }
+    c
+}
+
+// Whether every other instance's value is carried by fewer instances than this one.
+fn is_ahead(instances: &[i64], value: i64) -> bool
+    ensures { λ r. ⌜ r ≡ ahead (now (instances .entry)) value ⌝ }
+{
+    let c = count_of(instances, value);
+    for j in 0..instances.len() {
+        let u = instances[j];
+        if u != value {
+            if c <= count_of(instances, u) {
+                return false;
+            }
+        }
+    }
+    true
+}
+
+// The value that is ahead of every other.
+fn voted(instances: &[i64]) -> Agreed
+    ensures { λ r. ⌜ r ≡ vote (now (instances .entry)) ⌝ }
+{
+    for i in 0..instances.len() {
+        let v = instances[i];
+        if is_ahead(instances, v) {
+            return Agreed::Value(v);
+        }
+    }
+    Agreed::NoResult
+}
+
+// What the agreement of that number makes of the instances.
+pub fn agree(agreement: u8, instances: &[i64]) -> Agreed
+    ensures { λ r. ⌜ r ≡ agreed agreement (now (instances .entry)) ⌝ }
+{
+    match agreement {
+        0 => pick_any(instances),
+        1 => mean(instances),
+        2 => voted(instances),
+        _ => Agreed::NoResult,
+    }
+}

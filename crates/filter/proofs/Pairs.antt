@@ -1,0 +1,33 @@
+-- The filters come in pairs: each odd one passes exactly what the even one before it does not. So each rule of the table is held against a second.
+-- Assumes nothing.
+use mathlib.Core.Path.{_≡_, refl, ap, sym, _∙_}
+use mathlib.Core.Bool.{Bool, true, false, not, _&&_, _||_, Bool·not-not}
+use Prim.Native.Nat.{ℕ}
+use lib.IntN.{ℤ}
+use lib.Signed.{ltZ, leZ}
+use Rattle.whole.proofs.Integers.{at-most}
+use Rattle.filter.specs.Filter.{bound, rules, passes}
+
+less : (a b : ℤ) → ltZ a b ≡ not (leZ b a)
+less a b = sym (Bool·not-not (ltZ a b)) ∙ ap not (sym (at-most b a))
+
+not-both : (s t : Bool) → (not s || not t) ≡ not (s && t)
+not-both true t = refl
+not-both false t = refl
+
+module _ (signed : Bool) (x1 x2 : ℕ) (new old : ℤ) where
+  -- filter a passes exactly what filter b does not
+  abbrev Opposite : ℕ → ℕ → Type 0
+  Opposite a b = passes a signed x1 x2 new old ≡ not (passes b signed x1 x2 new old)
+
+  pub pairs : Opposite 1 0 × Opposite 3 2 × Opposite 5 4 × Opposite 7 6 × Opposite 9 8 × Opposite 11 10 × Opposite 13 12
+  unfolding passes rules
+  pairs = (
+    refl,
+    refl,
+    refl,
+    refl,
+    rw (less new (bound signed x1), less (bound signed x2) new) (not-both (leZ (bound signed x1) new) (leZ new (bound signed x2))),
+    at-most new old,
+    at-most old new,
+  )

@@ -1,0 +1,6 @@
+pub mod Bit
+pub mod Field
+pub mod Frame
+pub mod Negation
+pub mod Places
+pub mod Values

@@ -1,0 +1,78 @@
+-- The examples P1 to P10 of the paper as one table, over the definitions that the contracts cite. Each row reads as in the paper: what is done, and
+-- what comes of it.
+-- Assumes nothing.
+use mathlib.Core.Path.{_≡_}
+use mathlib.Core.Bool.{Bool, true, false}
+use mathlib.Core.List.{List, [], _∷_}
+use Prim.Native.Nat.{ℕ}
+use lib.IntN.{ℤ, pos, negℤ}
+use lib.ListN.{length}
+use Rattle.packing.specs.Places.{placesIn, packed}
+use Rattle.packing.specs.Values.{patternOf}
+use Rattle.agreement.specs.Agreement.{agreed, statusOf}
+use Rattle.agreement.specs.declared.Agreed.the-variants.{Value}
+use Rattle.filter.specs.Filter.{passes}
+
+-- ---- the rows' words
+
+-- a negative number
+abbrev pub minus : ℕ → ℤ
+minus n = negℤ (pos n)
+
+-- a frame's order
+abbrev pub little : Bool
+little = false
+
+abbrev pub big : Bool
+big = true
+
+-- a value packed at a width, a start bit and an order into a frame
+abbrev pub pack : ℤ → ℕ → ℕ → Bool → List ℕ → List ℕ
+pack value width start order frame = packed (placesIn (length frame) order start width) (patternOf 32 value) frame
+
+-- the agreements by their numbers
+abbrev pub average : ℕ
+average = 1
+
+abbrev pub vote : ℕ
+vote = 2
+
+-- what a filter without x1 and x2 says of values that are put to it one after the other, where old is the value last put to it
+unfoldable pub filtered : ℕ → ℤ → List ℤ → List Bool
+filtered filter old [] = []
+filtered filter old (new ∷ l) = passes filter true 0 0 new old ∷ filtered filter new l
+
+-- ---- the table
+
+pub record Rows : Type 0 where
+  -- pack 677, 10 bits, start 3, little, into 00 00: 28 15
+  pub P1 : pack (pos 677) 10 3 little (0x00 ∷ 0x00 ∷ []) ≡ 0x28 ∷ 0x15 ∷ []
+  -- same into FF FF: 2F F5
+  pub P2 : pack (pos 677) 10 3 little (0xff ∷ 0xff ∷ []) ≡ 0x2f ∷ 0xf5 ∷ []
+  -- same, big, into 00 00: 15 28
+  pub P3 : pack (pos 677) 10 3 big (0x00 ∷ 0x00 ∷ []) ≡ 0x15 ∷ 0x28 ∷ []
+  -- pack -1, signed 10 bits, start 0, little, into 00 00: FF 03
+  pub P4 : pack (minus 1) 10 0 little (0x00 ∷ 0x00 ∷ []) ≡ 0xff ∷ 0x03 ∷ []
+  -- average of -3, -4: -3
+  pub P5 : agreed average (minus 3 ∷ minus 4 ∷ []) ≡ Value (minus 3)
+  -- average of eight times 4,294,967,295: 4,294,967,295
+  pub P6 :
+      agreed average
+      (pos 4294967295
+      ∷ pos 4294967295
+      ∷ pos 4294967295
+      ∷ pos 4294967295
+      ∷ pos 4294967295
+      ∷ pos 4294967295
+      ∷ pos 4294967295
+      ∷ pos 4294967295
+      ∷ [])
+      ≡ Value (pos 4294967295)
+  -- vote 5, 5, 9, 7: 5
+  pub P7 : agreed vote (pos 5 ∷ pos 5 ∷ pos 9 ∷ pos 7 ∷ []) ≡ Value (pos 5)
+  -- vote 5, 5, 9, 9: 20
+  pub P8 : statusOf (agreed vote (pos 5 ∷ pos 5 ∷ pos 9 ∷ pos 9 ∷ [])) ≡ 20
+  -- vote 5 alone: 5
+  pub P9 : agreed vote (pos 5 ∷ []) ≡ Value (pos 5)
+  -- filter 10, initial 0, then 10, 4, 7: passes, not, passes
+  pub P10 : filtered 10 (pos 0) (pos 10 ∷ pos 4 ∷ pos 7 ∷ []) ≡ true ∷ false ∷ true ∷ []

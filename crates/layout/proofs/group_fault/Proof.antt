@@ -1,0 +1,54 @@
+-- GROUP: with what each callee ensures put in, the code's four tests are the definition's list.
+-- Assumes nothing.
+use mathlib.Core.Path.{refl}
+use borrow.Author.Needs.{needs}
+use Rattle.layout.specs.Records.{isField}
+use Rattle.layout.specs.Verdict.{groupFault}
+use Rattle.layout.proofs.group_fault.Statement.{statement}
+use Rattle.layout.proofs.group_fault.Tie as tie
+
+byte-requires : tie.Need-byte-requires
+byte-requires c κs = search needs
+
+field-at-requires : tie.Need-field-at-requires
+field-at-requires c κs = search needs
+
+cast-message-at : tie.Need-cast-message-at
+cast-message-at c = search needs
+
+add-message-at : tie.Need-add-message-at
+add-message-at c = search needs
+
+message-at-requires : tie.Need-message-at-requires
+message-at-requires c κs = search needs
+
+fields-of-requires : tie.Need-fields-of-requires
+fields-of-requires c κs = search needs
+
+any-unlike-requires : tie.Need-any-unlike-requires
+any-unlike-requires c κs = search needs
+
+returns : tie.Need-returns
+unfolding groupFault isField
+returns c =
+    rw (
+      c .before .before .before .any-unlike .ensures,
+      c .before .before .before .before .before .fields-of .ensures,
+      c .before .before .before .before .before .before .message-at .ensures,
+      c .before .before .before .before .before .before .before .before .before .field-at .ensures,
+      c .before .before .before .before .before .before .before .before .before .before .byte .ensures,
+    )
+    refl
+
+pub group-fault-spec : {M : Type 1} → statement M
+group-fault-spec =
+    tie.close
+    (tie.spec
+    byte-requires
+    field-at-requires
+    cast-message-at
+    add-message-at
+    message-at-requires
+    fields-of-requires
+    any-unlike-requires
+    returns)

@@ -1,0 +1,95 @@
+-- The records of a layout file, their bytes and words by the paper's names. The file is the list of its bytes; record i is the 24 of them from
+-- 24 * i on, and what lies past the end of the file reads as zero.
+-- Assumes nothing.
+use mathlib.Core.Bool.{Bool, cond}
+use mathlib.Core.List.{List}
+use Prim.Native.Nat.{ℕ, _+_, _*_}
+use lib.Dec.{eqb}
+use lib.ListN.{getD}
+use Rattle.layout.specs.Numbers.{tally}
+use Rattle.layout.specs.declared.Frame.{Frame}
+use Rattle.layout.specs.declared.Message.{Message}
+use Rattle.layout.specs.declared.Field.{Field}
+use Rattle.layout.specs.declared.Record.{Record}
+use Rattle.layout.specs.declared.Counts.{Counts}
+use Rattle.layout.specs.declared.Read.{Read}
+
+-- byte k of record i
+unfoldable pub byteAt : List ℕ → ℕ → ℕ → ℕ
+byteAt s i k = getD s (i * 24 + k) 0
+
+-- the four-byte word at byte k of record i, little-endian
+unfoldable pub wordAt : List ℕ → ℕ → ℕ → ℕ
+wordAt s i k = byteAt s i k + 256 * (byteAt s i (k + 1) + 256 * (byteAt s i (k + 2) + 256 * byteAt s i (k + 3)))
+
+-- ---- the three kinds
+
+unfoldable pub isFrame : List ℕ → ℕ → Bool
+isFrame s i = eqb (byteAt s i 0) 1
+
+unfoldable pub isMessage : List ℕ → ℕ → Bool
+isMessage s i = eqb (byteAt s i 0) 2
+
+unfoldable pub isField : List ℕ → ℕ → Bool
+isField s i = eqb (byteAt s i 0) 3
+
+-- record i read as a frame: order 0 little, 1 big; direction 0 received, 1 sent; trigger 0 time, 1 event
+unfoldable pub frameAt : List ℕ → ℕ → Frame
+frameAt s i =
+    record {
+      number = byteAt s i 1;
+      length = byteAt s i 2;
+      order = byteAt s i 3;
+      direction = byteAt s i 4;
+      trigger = byteAt s i 5;
+    }
+
+-- read as a message: sign 0 unsigned, 1 signed
+unfoldable pub messageAt : List ℕ → ℕ → Message
+messageAt s i =
+    record {
+      number = byteAt s i 1;
+      width = byteAt s i 2;
+      sign = byteAt s i 3;
+      direction = byteAt s i 4;
+      agreement = byteAt s i 5;
+      filter = byteAt s i 6;
+      x1 = wordAt s i 8;
+      x2 = wordAt s i 12;
+      initial = wordAt s i 16;
+    }
+
+-- read as a field: status 1 where its status bit is present, at that place
+unfoldable pub fieldAt : List ℕ → ℕ → Field
+fieldAt s i =
+    record {
+      message = byteAt s i 1;
+      frame = byteAt s i 2;
+      start = byteAt s i 3;
+      status = byteAt s i 4;
+      place = byteAt s i 5;
+    }
+
+-- read by its kind
+unfoldable pub recordAt : List ℕ → ℕ → Record
+recordAt s i = cond (isFrame s i) (Record.Frame (frameAt s i)) (cond (isMessage s i) (Record.Message (messageAt s i)) (Record.Field (fieldAt s i)))
+
+-- ---- the records before record i
+
+-- how many there are of each kind
+unfoldable pub countsBefore : List ℕ → ℕ → Counts
+countsBefore s i = record { frames = tally (isFrame s) i; messages = tally (isMessage s) i; fields = tally (isField s) i }
+
+-- the counts with one record more; a refused one does not count
+abbrev pub countedBy : Counts → Read → Counts
+countedBy c (Read.Record (Record.Frame h)) = record { frames = c .frames + 1; messages = c .messages; fields = c .fields }
+countedBy c (Read.Record (Record.Message g)) = record { frames = c .frames; messages = c .messages + 1; fields = c .fields }
+countedBy c (Read.Record (Record.Field r)) = record { frames = c .frames; messages = c .messages; fields = c .fields + 1 }
+countedBy c (Read.Refused n) = c
+
+-- frame f is record f, and message m is record m after the frames, which c counts
+abbrev pub frameNumbered : List ℕ → ℕ → Frame
+frameNumbered s f = frameAt s f
+
+abbrev pub messageNumbered : List ℕ → Counts → ℕ → Message
+messageNumbered s c m = messageAt s (c .frames + m)

@@ -1,0 +1,364 @@
+//! The layout file: the reader with its seven refusals, and what the listing program prints.
+//! Written sentence by sentence from the paper, to be checked by eye and not to be fast.
+
+pub const SIZE: u8 = 1;
+pub const ORDER: u8 = 2;
+pub const RANGE: u8 = 3;
+pub const REF: u8 = 4;
+pub const GROUP: u8 = 5;
+pub const PLACE: u8 = 6;
+pub const NOFIELD: u8 = 7;
+
+/// The kinds of record (byte 0).
+pub const FRAME: u8 = 1;
+pub const MESSAGE: u8 = 2;
+pub const FIELD: u8 = 3;
+
+/// Bytes of one record, and of the longest file (192 records).
+pub const RECORD: usize = 24;
+pub const LONGEST: usize = 4608;
+
+#[derive(Debug, PartialEq)]
+pub struct Frame {
+    pub length: usize,
+    pub big: bool,
+    pub sent: bool,
+    pub event: bool,
+}
+
+#[derive(Debug, PartialEq)]
+pub struct Message {
+    pub width: usize,
+    pub signed: bool,
+    pub sent: bool,
+    pub agreement: u8,
+    pub filter: u8,
+    pub x1: u32,
+    pub x2: u32,
+    pub initial: u32,
+}
+
+#[derive(Debug, PartialEq)]
+pub struct Field {
+    pub message: usize,
+    pub frame: usize,
+    pub start: usize,
+    /// The status bit's place, if the field has a status bit.
+    pub status: Option<usize>,
+}
+
+#[derive(Debug, Default, PartialEq)]
+pub struct Layout {
+    pub frames: Vec<Frame>,
+    pub messages: Vec<Message>,
+    pub fields: Vec<Field>,
+}
+
+#[derive(Debug, PartialEq)]
+pub enum Verdict {
+    Accepted(Layout),
+    Refused { number: u8, record: usize },
+}
+
+/// SIZE, then the records in file order, then NOFIELD; the first failing test decides.
+pub fn read(file: &[u8]) -> Verdict {
+    if size_fails(file) {
+        return Verdict::Refused {
+            number: SIZE,
+            record: 0,
+        };
+    }
+    let mut layout = Layout::default();
+    for (place, record) in file.chunks(RECORD).enumerate() {
+        if let Some(number) = refusal(&layout, record) {
+            return Verdict::Refused {
+                number,
+                record: place,
+            };
+        }
+        take_up(&mut layout, record);
+    }
+    if let Some(message) = lowest_without_field(&layout) {
+        return Verdict::Refused {
+            number: NOFIELD,
+            // All frames stand before the messages, so message 0 is record frames.len().
+            record: layout.frames.len() + message,
+        };
+    }
+    Verdict::Accepted(layout)
+}
+
+/// What the listing program prints for the file.
+pub fn listing(file: &[u8]) -> String {
+    match read(file) {
+        Verdict::Refused { number, record } => format!("refused {number} record {record}\n"),
+        Verdict::Accepted(layout) => {
+            let mut text = String::from("message frame start width status\n");
+            for field in &layout.fields {
+                text.push_str(&line(&layout, field));
+            }
+            text
+        }
+    }
+}
+
+fn line(layout: &Layout, field: &Field) -> String {
+    let width = layout.messages[field.message].width;
+    let status = match field.status {
+        Some(place) => place.to_string(),
+        None => String::from("-"),
+    };
+    format!(
+        "{} {} {} {} {}\n",
+        field.message, field.frame, field.start, width, status
+    )
+}
+
+/// The first of the tests 2 to 6 that the record fails, after the records before it.
+fn refusal(before: &Layout, record: &[u8]) -> Option<u8> {
+    if order_fails(before, record) {
+        return Some(ORDER);
+    }
+    if range_fails(record) {
+        return Some(RANGE);
+    }
+    // REF, GROUP and PLACE speak of fields only.
+    if record[0] != FIELD {
+        return None;
+    }
+    let field = field(record);
+    if ref_fails(before, &field) {
+        return Some(REF);
+    }
+    if group_fails(before, &field) {
+        return Some(GROUP);
+    }
+    if place_fails(before, &field) {
+        return Some(PLACE);
+    }
+    None
+}
+
+/// Length not a multiple of 24, or above 4,608.
+fn size_fails(file: &[u8]) -> bool {
+    !file.len().is_multiple_of(RECORD) || file.len() > LONGEST
+}
+
+/// Kind not 1..3 or below the kind before; frame or message number not the next from 0;
+/// field's (message, frame) pair not above the field's before it.
+fn order_fails(before: &Layout, record: &[u8]) -> bool {
+    let kind = record[0];
+    if !(FRAME..=FIELD).contains(&kind) || kind < kind_before(before) {
+        return true;
+    }
+    match kind {
+        FRAME => usize::from(record[1]) != before.frames.len(),
+        MESSAGE => usize::from(record[1]) != before.messages.len(),
+        _ => pair_not_above(before, &field(record)),
+    }
+}
+
+/// The kind of the record before, 0 for the first record. Kinds never fall, so it is the
+/// highest kind there is so far.
+fn kind_before(before: &Layout) -> u8 {
+    if !before.fields.is_empty() {
+        FIELD
+    } else if !before.messages.is_empty() {
+        MESSAGE
+    } else if !before.frames.is_empty() {
+        FRAME
+    } else {
+        0
+    }
+}
+
+/// Pairs are compared by message, and by frame where the messages are the same.
+fn pair_not_above(before: &Layout, field: &Field) -> bool {
+    match before.fields.last() {
+        None => false,
+        Some(last) if field.message == last.message => field.frame <= last.frame,
+        Some(last) => field.message < last.message,
+    }
+}
+
+/// A byte or word outside its range, or a frame or message record numbered 32.
+fn range_fails(record: &[u8]) -> bool {
+    let in_range = match record[0] {
+        FRAME => frame_in_range(record),
+        MESSAGE => message_in_range(record),
+        _ => field_in_range(record),
+    };
+    !in_range
+}
+
+fn frame_in_range(record: &[u8]) -> bool {
+    let (number, length, order, direction, trigger) =
+        (record[1], record[2], record[3], record[4], record[5]);
+    number < 32
+        && (1..=32).contains(&length)
+        && order <= 1
+        && direction <= 1
+        && trigger <= 1
+        && zero(&record[6..])
+}
+
+fn message_in_range(record: &[u8]) -> bool {
+    let (number, width, sign, direction) = (record[1], record[2], record[3], record[4]);
+    let (agreement, filter) = (record[5], record[6]);
+    number < 32
+        && (1..=32).contains(&width)
+        && sign <= 1
+        && direction <= 1
+        && agreement <= 2
+        && (direction == 0 || agreement == 0)
+        && filter <= 13
+        && zero(&record[7..8])
+        && words_in_range(&message(record))
+        && zero(&record[20..])
+}
+
+/// x1, x2 and the initial value extended from the width; an x that the filter does not use, zero.
+fn words_in_range(message: &Message) -> bool {
+    extended(message.x1, message)
+        && extended(message.x2, message)
+        && extended(message.initial, message)
+        && (uses_x1(message.filter) || message.x1 == 0)
+        && (uses_x2(message.filter) || message.x2 == 0)
+}
+
+pub fn uses_x1(filter: u8) -> bool {
+    [2, 3, 6, 7, 8, 9].contains(&filter)
+}
+
+pub fn uses_x2(filter: u8) -> bool {
+    [2, 3, 8, 9].contains(&filter)
+}
+
+/// Each bit above the width is zero, or for a signed message the same as the sign bit.
+fn extended(pattern: u32, message: &Message) -> bool {
+    let bit = |i: usize| pattern >> i & 1 == 1;
+    let above = message.signed && bit(message.width - 1);
+    (message.width..32).all(|i| bit(i) == above)
+}
+
+/// The message, the frame and the start bit have no range.
+fn field_in_range(record: &[u8]) -> bool {
+    let (present, place) = (record[4], record[5]);
+    present <= 1 && (present == 1 || place == 0) && zero(&record[6..])
+}
+
+/// Bytes not named are zero.
+fn zero(bytes: &[u8]) -> bool {
+    bytes.iter().all(|&byte| byte == 0)
+}
+
+/// A field names an absent message or frame, or their directions differ.
+fn ref_fails(before: &Layout, field: &Field) -> bool {
+    // All messages and frames stand before the first field, so absent now is absent in the file.
+    match (
+        before.messages.get(field.message),
+        before.frames.get(field.frame),
+    ) {
+        (Some(message), Some(frame)) => message.sent != frame.sent,
+        _ => true,
+    }
+}
+
+/// A message's ninth field; the 129th field; status bit present here and absent in the message's
+/// earlier field, or the reverse; a sent message with a filter other than 0 and no status bit.
+fn group_fails(before: &Layout, field: &Field) -> bool {
+    let message = &before.messages[field.message];
+    let earlier: Vec<&Field> = before
+        .fields
+        .iter()
+        .filter(|earlier| earlier.message == field.message)
+        .collect();
+    let ninth = earlier.len() == 8;
+    let number_129 = before.fields.len() == 128;
+    let mixed = earlier
+        .iter()
+        .any(|earlier| earlier.status.is_some() != field.status.is_some());
+    let filter_without_status = message.sent && message.filter != 0 && field.status.is_none();
+    ninth || number_129 || mixed || filter_without_status
+}
+
+/// A bit of the field or its status bit lies past the frame's end, or is used twice in that frame.
+fn place_fails(before: &Layout, field: &Field) -> bool {
+    let end = 8 * before.frames[field.frame].length;
+    let mut used = vec![false; end];
+    for earlier in &before.fields {
+        if earlier.frame == field.frame {
+            for bit in bits(before, earlier) {
+                used[bit] = true;
+            }
+        }
+    }
+    for bit in bits(before, field) {
+        if bit >= end || used[bit] {
+            return true;
+        }
+        // Marked at once, so that a status bit on its own field's bit is a second use.
+        used[bit] = true;
+    }
+    false
+}
+
+/// The frame bits that the field uses. In both orders its message bits lie at start to
+/// start + width - 1; the orders differ only in which message bit lies where.
+fn bits(layout: &Layout, field: &Field) -> Vec<usize> {
+    let width = layout.messages[field.message].width;
+    let mut bits: Vec<usize> = (field.start..field.start + width).collect();
+    bits.extend(field.status);
+    bits
+}
+
+/// The lowest message that has no field.
+fn lowest_without_field(layout: &Layout) -> Option<usize> {
+    (0..layout.messages.len())
+        .find(|&message| layout.fields.iter().all(|field| field.message != message))
+}
+
+/// Adds a record that passed its tests.
+fn take_up(layout: &mut Layout, record: &[u8]) {
+    match record[0] {
+        FRAME => layout.frames.push(frame(record)),
+        MESSAGE => layout.messages.push(message(record)),
+        _ => layout.fields.push(field(record)),
+    }
+}
+
+fn frame(record: &[u8]) -> Frame {
+    Frame {
+        length: usize::from(record[2]),
+        big: record[3] == 1,
+        sent: record[4] == 1,
+        event: record[5] == 1,
+    }
+}
+
+fn message(record: &[u8]) -> Message {
+    Message {
+        width: usize::from(record[2]),
+        signed: record[3] == 1,
+        sent: record[4] == 1,
+        agreement: record[5],
+        filter: record[6],
+        x1: word(record, 8),
+        x2: word(record, 12),
+        initial: word(record, 16),
+    }
+}
+
+fn field(record: &[u8]) -> Field {
+    Field {
+        message: usize::from(record[1]),
+        frame: usize::from(record[2]),
+        start: usize::from(record[3]),
+        status: (record[4] == 1).then_some(usize::from(record[5])),
+    }
+}
+
+/// The four-byte little-endian word that begins at a byte of the record.
+fn word(record: &[u8], at: usize) -> u32 {
+    (0..4).map(|i| u32::from(record[at + i]) << (8 * i)).sum()
+}

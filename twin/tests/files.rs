@@ -1,0 +1,80 @@
+//! The generators: valid files are accepted, each change is refused as it is meant to be, and the
+//! edges that matter occur.
+
+use twin::changes::{with_change, CHANGES};
+use twin::files::{file, valid};
+use twin::layout::{read, Layout, Verdict};
+use twin::random::Random;
+
+const SEED: u64 = 7;
+
+/// The layouts of many valid files; a refused one fails the test.
+fn valid_layouts() -> Vec<Layout> {
+    let layout = |index| match read(&valid(&mut Random::new(SEED, index))) {
+        Verdict::Accepted(layout) => layout,
+        refused => panic!("valid file {index}: {refused:?}"),
+    };
+    (0..500).map(layout).collect()
+}
+
+fn count(layouts: &[Layout], test: impl Fn(&Layout) -> bool) -> usize {
+    layouts.iter().filter(|layout| test(layout)).count()
+}
+
+fn uses_last_bit(layout: &Layout) -> bool {
+    layout.fields.iter().any(|field| {
+        let end = 8 * layout.frames[field.frame].length;
+        let after = field.start + layout.messages[field.message].width;
+        after == end || field.status == Some(end - 1)
+    })
+}
+
+#[test]
+fn valid_files_are_of_all_sizes() {
+    let layouts = valid_layouts();
+    let largest = |l: &Layout| (l.frames.len(), l.messages.len(), l.fields.len()) == (32, 32, 128);
+    assert!(layouts.contains(&Layout::default()));
+    assert!(count(&layouts, largest) >= 20);
+    assert!(count(&layouts, |layout| layout.fields.len() == 128) >= 50);
+    assert!(count(&layouts, uses_last_bit) >= 250);
+}
+
+#[test]
+fn valid_files_have_all_widths_and_filters() {
+    let layouts = valid_layouts();
+    for width in 1..=32 {
+        let has = |layout: &Layout| layout.messages.iter().any(|m| m.width == width);
+        assert!(count(&layouts, has) >= 20);
+    }
+    for filter in 0..=13 {
+        let has = |layout: &Layout| layout.messages.iter().any(|m| m.filter == filter);
+        assert!(count(&layouts, has) >= 20);
+    }
+}
+
+#[test]
+fn each_change_leads_to_its_refusal() {
+    for (place, &(aim, change)) in CHANGES.iter().enumerate() {
+        let hits = (0..100)
+            .map(|index| read(&with_change(&mut Random::new(SEED, index), change)))
+            .filter(|it| matches!(it, Verdict::Refused { number, .. } if *number == aim))
+            .count();
+        assert!(hits >= 25, "change {place}, refusal {aim}: {hits} of 100");
+    }
+}
+
+#[test]
+fn random_bytes_take_every_length() {
+    let random_bytes = (0..10_000).step_by(2);
+    let mut lengths: Vec<usize> = random_bytes.map(|index| file(SEED, index).len()).collect();
+    lengths.sort();
+    assert!(lengths[..4610].iter().copied().eq(0..4610));
+    assert!(lengths[4999] > 90_000 && lengths[4999] <= 100_000);
+}
+
+#[test]
+fn files_depend_on_seed_and_index_alone() {
+    let files = |seed| -> Vec<Vec<u8>> { (0..100).map(|index| file(seed, index)).collect() };
+    assert_eq!(files(SEED), files(SEED));
+    assert_ne!(files(SEED), files(SEED + 1));
+}

@@ -6,6 +6,7 @@ use mathlib.Core.List.{List}
 use Prim.Native.Nat.{ℕ, _+_, _*_}
 use lib.Dec.{eqb}
 use lib.ListN.{getD}
+use Rattle.whole.specs.Whole.{word}
 use Rattle.layout.specs.Numbers.{tally}
 use Rattle.layout.specs.declared.Frame.{Frame}
 use Rattle.layout.specs.declared.Message.{Message}
@@ -20,7 +21,7 @@ byteAt s i k = getD s (i * 24 + k) 0
 
 -- the four-byte word at byte k of record i, little-endian
 unfoldable pub wordAt : List ℕ → ℕ → ℕ → ℕ
-wordAt s i k = byteAt s i k + 256 * (byteAt s i (k + 1) + 256 * (byteAt s i (k + 2) + 256 * byteAt s i (k + 3)))
+wordAt s i k = word (byteAt s i k) (byteAt s i (k + 1)) (byteAt s i (k + 2)) (byteAt s i (k + 3))
 
 -- ---- the three kinds
 

@@ -11,7 +11,9 @@ use Rattle.packing.specs.Places.{placesIn, packed}
 use Rattle.packing.specs.Values.{patternOf}
 use Rattle.agreement.specs.Agreement.{agreed, statusOf}
 use Rattle.agreement.specs.declared.Agreed.the-variants.{Value}
-use Rattle.filter.specs.Filter.{passes}
+use Rattle.store.specs.declared.Message.{Message}
+use Rattle.store.specs.Node.{isValid}
+use Rattle.node.specs.Calls.{offered}
 
 -- ---- the rows' words
 
@@ -37,10 +39,30 @@ average = 1
 abbrev pub vote : ℕ
 vote = 2
 
--- what a filter without x1 and x2 says of values that are put to it one after the other, where old is the value last put to it
-unfoldable pub filtered : ℕ → ℤ → List ℤ → List Bool
-filtered filter old [] = []
-filtered filter old (new ∷ l) = passes filter true 0 0 new old ∷ filtered filter new l
+-- a sent message of 10 bits, signed, with that filter and initial value
+abbrev pub message : ℕ → ℤ → Message
+message filter initial =
+    record {
+      width = 10;
+      sign = 1;
+      direction = 1;
+      agreement = 0;
+      filter = filter;
+      statusbit = 1;
+      valid = 0;
+      status = 21;
+      first = 0;
+      fields = 1;
+      x1 = 0;
+      x2 = 0;
+      held = initial;
+      old = initial;
+    }
+
+-- whether it is valid after each of some values is sent, one after the other
+unfoldable pub sent : Message → List ℤ → List Bool
+sent g [] = []
+sent g (v ∷ l) = isValid (offered g v) ∷ sent (offered g v) l
 
 -- ---- the table
 
@@ -75,4 +97,4 @@ pub record Rows : Type 0 where
   -- vote 5 alone: 5
   pub P9 : agreed vote (pos 5 ∷ []) ≡ Value (pos 5)
   -- filter 10, initial 0, then 10, 4, 7: passes, not, passes
-  pub P10 : filtered 10 (pos 0) (pos 10 ∷ pos 4 ∷ pos 7 ∷ []) ≡ true ∷ false ∷ true ∷ []
+  pub P10 : sent (message 10 (pos 0)) (pos 10 ∷ pos 4 ∷ pos 7 ∷ []) ≡ true ∷ false ∷ true ∷ []

@@ -1,0 +1,57 @@
+-- What answer 0 tells: the tests come one after the other, each with an answer of its own, so that answer 0 says that each was passed.
+-- Assumes nothing.
+use mathlib.Core.Path.{_≡_, refl}
+use mathlib.Core.Bool.{Bool, true, false, not, cond}
+use Prim.Native.Nat.{ℕ, suc, _<_, min}
+use native.Mathlib.Omega.{arith}
+use lib.Dec.{ltb, eqb}
+use lib.IntN.{ℤ}
+use borrow.Author.Tests.{ltb-true, eqb-true, not-false}
+use Rattle.packing.specs.Values.{inRange}
+use Rattle.store.specs.Node.{Node, frameCount, messageCount, isSigned, isSent, isSentFrame, frameAt, messageAt}
+use Rattle.node.specs.Calls.{sendAnswer, invalidateAnswer, assembleAnswer, deliverAnswer, receiveAnswer}
+
+-- one test, and the tests after it
+passed : (t : Bool) (k r : ℕ) → cond t (suc k) r ≡ 0 → (t ≡ false) × (r ≡ 0)
+passed true k r e = absurd (omega arith)
+passed false k r e = (refl, e)
+
+-- the first: the message or frame is one of the layout
+known : (i number k r : ℕ) → cond (not (ltb i (min number 32))) (suc k) r ≡ 0 → (i < min number 32) × (r ≡ 0)
+known i number k r e =
+    let first = passed (not (ltb i (min number 32))) k r e in
+    (ltb-true i (min number 32) (not-false _ (first .0)), first .1)
+
+-- and so one that the memory has a cell for
+pub in-memory : (i number k r : ℕ) → cond (not (ltb i (min number 32))) (suc k) r ≡ 0 → i < 32
+in-memory i number k r e = omega (arith, known i number k r e)
+
+module _ (n : Node) where
+  pub send-tests : (m : ℕ) (v : ℤ) → sendAnswer n m v ≡ 0
+      → (m < n .message-number) × (inRange (isSigned (messageAt n m)) (messageAt n m .width) v ≡ true)
+  unfolding sendAnswer
+  send-tests m v e =
+      let number = known m (n .message-number) _ _ e in
+      let access = passed (not (isSent (messageAt n m))) _ _ (number .1) in
+      let value = passed (not (inRange (isSigned (messageAt n m)) (messageAt n m .width) v)) _ _ (access .1) in
+      (omega arith, not-false _ (value .0))
+
+  pub invalidate-tests : (m : ℕ) → invalidateAnswer n m ≡ 0 → m < n .message-number
+  unfolding invalidateAnswer
+  invalidate-tests m e = omega (arith, known m (n .message-number) _ _ e)
+
+  pub assemble-tests : (f size : ℕ) → assembleAnswer n f size ≡ 0 → size ≡ frameAt n f .head .length
+  unfolding assembleAnswer
+  assemble-tests f size e =
+      let number = known f (n .frame-number) _ _ e in
+      let access = passed (not (isSentFrame (frameAt n f .head))) _ _ (number .1) in
+      let value = passed (not (eqb size (frameAt n f .head .length))) _ _ (access .1) in
+      eqb-true size (frameAt n f .head .length) (not-false _ (value .0))
+
+  pub deliver-tests : (f size : ℕ) → deliverAnswer n f size ≡ 0 → f < frameCount n
+  unfolding deliverAnswer
+  deliver-tests f size e = known f (n .frame-number) _ _ e .0
+
+  pub receive-tests : (m : ℕ) → receiveAnswer n m ≡ 0 → m < messageCount n
+  unfolding receiveAnswer
+  receive-tests m e = known m (n .message-number) _ _ e .0

@@ -1,0 +1,15 @@
+pub mod Answers
+pub mod Instances
+pub mod Kept
+pub mod Lists
+pub mod Loops
+pub mod Meaning
+pub mod Outcomes
+pub mod Owners
+pub mod Rounds
+pub mod StartMeans
+pub mod Starts
+pub mod Steps
+pub mod Stretches
+pub mod Tables
+pub mod Turns

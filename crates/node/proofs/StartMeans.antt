@@ -1,0 +1,69 @@
+-- What the paper says of a node at start holds after every load that answers 0: each message holds its initial value, which is also its old value, a
+-- received one has status 21, a sent one is valid exactly if it has no status bit, and all fields are gone, so that its flag is set. Each is read off
+-- the cells that the load makes.
+-- Assumes nothing.
+use mathlib.Core.Path.{_≡_, refl}
+use mathlib.Core.Bool.{Bool, true, false, not, cond}
+use mathlib.Core.List.{List}
+use Prim.Native.Nat.{ℕ, _+_, _<_, min}
+use native.Mathlib.Omega.{arith}
+use lib.Dec.{eqb, leb}
+use borrow.Author.Tests.{lt-ltb}
+use Rattle.whole.specs.Whole.{allOf}
+use Rattle.layout.specs.WellLaid.{WellLaid}
+use Rattle.store.specs.Node.{Node, messageCount, isSent, isValid, hasStatusBit, noField, messageAt}
+use Rattle.store.specs.Start.{startField, startStatusBit, initialValue, startMessage, startFields, startOf}
+use Rattle.node.specs.declared.Owner.{Owner}
+use Rattle.node.specs.Own.{own}
+use Rattle.node.specs.Calls.{flagAnswer, goneField, flagOf, flagPlace, receiveAnswer}
+use Rattle.node.specs.Load.{loadOf}
+use Rattle.node.proofs.Starts.{message-at, load-makes}
+use Rattle.node.proofs.Tables.{table-all, choice-passes, chosen-all}
+
+-- node n is at start with the layout file s; a flag is read into the caller's place, whatever p it held
+pub record AtStart (s : List ℕ) (n : Node) : Type 0 where
+  pub held : (m : ℕ) → m < messageCount n → messageAt n m .held ≡ initialValue s (n .frame-number + m)
+  pub old : (m : ℕ) → m < messageCount n → messageAt n m .old ≡ initialValue s (n .frame-number + m)
+  pub received : (m : ℕ) → m < messageCount n → isSent (messageAt n m) ≡ false → receiveAnswer n m ≡ 21
+  pub sent : (m : ℕ) → m < messageCount n → isSent (messageAt n m) ≡ true → isValid (messageAt n m) ≡ not (hasStatusBit (messageAt n m))
+  pub gone : allOf goneField (n .fields) ≡ true
+  pub flag : (m p : ℕ) → m < messageCount n → isSent (messageAt n m) ≡ true → flagPlace n m p ≡ 1
+
+-- a message whose status bit is k, 0 where it has none
+valid-without : (k : ℕ) → not (eqb (cond (eqb k 0) 1 0) 0) ≡ not (not (eqb k 0))
+valid-without k = go (eqb k 0)
+  where
+    go : (b : Bool) → not (eqb (cond b 1 0) 0) ≡ not (not b)
+    go true = refl
+    go false = refl
+
+module _ (s : List ℕ) (F M D : ℕ) where
+  abbrev node : Node
+  node = startOf s F M D
+
+  all-gone : allOf goneField (node .fields) ≡ true
+  unfolding startOf startFields startField
+  all-gone = table-all (startField s (F + M) D) goneField (λ d. choice-passes goneField (leb D d) noField _ refl refl) 0 128
+
+  flag-set : (m p : ℕ) → m < messageCount node → isSent (messageAt node m) ≡ true → flagPlace node m p ≡ 1
+  unfolding flagPlace flagAnswer flagOf
+  flag-set m p l sent =
+      let gone = chosen-all goneField (own node (Owner.Message m)) 0 (node .fields) all-gone in
+      rw (lt-ltb m (messageCount node) l, sent, gone)
+
+  start-means : WellLaid s F M D → AtStart s node
+  unfolding startOf startMessage receiveAnswer
+  start-means w =
+      record {
+        held = λ m l. rw (message-at s F M D w m (omega arith));
+        old = λ m l. rw (message-at s F M D w m (omega arith));
+        received = λ m l got. rw (lt-ltb m (min M 32) l, got, message-at s F M D w m (omega arith));
+        sent = λ m l sent. rw (message-at s F M D w m (omega arith)) (valid-without (startStatusBit s (F + M) D m));
+        gone = all-gone;
+        flag = flag-set;
+      }
+
+pub load-means : (n : Node) (s : List ℕ) → loadOf n s .answer ≡ 0 → AtStart s (loadOf n s .node)
+load-means n s done =
+    let made = load-makes n s done in
+    rw (made .node) (start-means s (made .frames) (made .messages) (made .fields) (made .well-laid))

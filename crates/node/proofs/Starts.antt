@@ -1,0 +1,315 @@
+-- The node of an accepted layout file is sound, and so is the node after every load that answers 0. The cells hold what the file's records say, so
+-- what is demanded of the records holds of the cells; the fields are sorted by message, so those of a message are a stretch from the first on. A
+-- refusal's number is not 0, so a load that answers 0 has accepted the file.
+-- Assumes nothing.
+use mathlib.Core.Path.{_≡_, refl, sym, ap}
+use mathlib.Core.Bool.{Bool, true, false, cond}
+use mathlib.Core.List.{List}
+use mathlib.Core.Logic.{inl, inr, ⊎-elim}
+use Prim.Native.Nat.{ℕ, zero, suc, _+_, _-_, _<_, _≤_}
+use native.Mathlib.Nat.{eq-or-lt-of-le}
+use native.Mathlib.Omega.{arith}
+use lib.Dec.{eqb}
+use borrow.Author.Tests.{lt-leb, lt-ltb, eqb-true, eq-eqb}
+use Rattle.packing.specs.Places.{bitPlaces, places, inFrame}
+use Rattle.packing.specs.Values.{isWidth, inRange, valueOf, extended}
+use Rattle.packing.proofs.Values.{pattern-below, extended-pattern, extended-value}
+use Rattle.layout.specs.Numbers.{tally}
+use Rattle.layout.specs.Records as records
+use Rattle.layout.specs.Verdict.{isFieldOf, fieldsOf, verdict}
+use Rattle.layout.specs.Refusals.{Fails, Refusal}
+use Rattle.layout.specs.declared.Counts.{Counts}
+use Rattle.layout.specs.declared.Verdict.{Verdict}
+use Rattle.layout.specs.declared.Field.{Field as FieldRecord}
+use Rattle.layout.specs.WellLaid.{theField, itsMessage, itsFrame, WellLaid}
+use Rattle.layout.proofs.Tests.{meanings}
+use Rattle.layout.proofs.Accepted.{kinds, none-before, accepted}
+use Rattle.layout.proofs.Refused.{refused}
+use Rattle.layout.proofs.Node.{few-frames, few-messages, together, frames-rise, message-placed, status-placed, own-disjoint, fields-separate}
+use Rattle.layout.proofs.Node as laid
+use Rattle.store.specs.declared.Stage.the-variants.{Gone}
+use Rattle.store.specs.declared.Message.{Message}
+use Rattle.store.specs.declared.Field.{Field}
+use Rattle.store.specs.Node.{Frame, Node, noFrame, noMessage, noField, frameAt, messageAt, fieldAt, emptied}
+use Rattle.store.specs.Start.{
+  startHead,
+  startField,
+  names,
+  firstField,
+  startMessage,
+  startMessageOrNone,
+  startFrames,
+  startMessages,
+  startFields,
+  startOf,
+}
+use Rattle.node.specs.Calls.{statusPlaces}
+use Rattle.node.specs.Load.{loaded, loadOf}
+use Rattle.node.specs.Sound.{SoundFrame, SoundMessage, SoundField, Apart, Sound, messagePlaces, itsStatusPlaces}
+use Rattle.node.proofs.Stretches.{tally-from, Stretch, stretch}
+use Rattle.node.proofs.Tables.{table-length, table-at}
+
+-- an extended word is the pattern of a value that the message holds
+extended-held : (signed : Bool) (w x : ℕ) → extended signed w x ≡ true → inRange signed w (valueOf signed 32 x) ≡ true
+extended-held signed w x t =
+    let (z, e, _) = extended-pattern signed w x .0 t in
+    rw (← extended-value signed w x (rw e (pattern-below 32 z))) t
+
+at-most-one : (b : Bool) → cond b 1 0 ≤ 1
+at-most-one true = omega arith
+at-most-one false = omega arith
+
+module _ (s : List ℕ) (F M D : ℕ) where
+  abbrev node : Node
+  node = startOf s F M D
+
+  -- field d of the file, and whether its frame has big order
+  abbrev field : ℕ → FieldRecord
+  field d = theField s F M d
+
+  abbrev isBig : ℕ → Bool
+  isBig d = eqb (itsFrame s F M (field d) .order) 1
+
+  -- what the node holds of field d, of frame f and of message m
+  abbrev fieldCell : ℕ → Field
+  fieldCell d =
+      record {
+        message = field d .message;
+        frame = field d .frame;
+        start = field d .start;
+        status = field d .status;
+        place = field d .place;
+        stage = Gone 2;
+      }
+
+  abbrev frameCell : ℕ → Frame
+  frameCell f =
+      emptied
+      (record {
+        length = records.frameAt s f .length;
+        order = records.frameAt s f .order;
+        direction = records.frameAt s f .direction;
+        trigger = records.frameAt s f .trigger;
+        delivered = 0;
+      })
+
+  abbrev messageCell : ℕ → Message
+  messageCell m = startMessage s F (F + M) D m
+
+  -- the first field of message m, and how many it has
+  abbrev first : ℕ → ℕ
+  first m = firstField s (F + M) D m
+
+  abbrev count : ℕ → ℕ
+  count m = tally (names s (F + M) m) D
+
+  module _ (w : WellLaid s F M D) where
+    -- ---- what the cells hold
+
+    frame-at : (f : ℕ) → f < F → frameAt node f ≡ frameCell f
+    unfolding startOf startFrames startHead
+    frame-at f l =
+        let inside : f < 32 = omega (arith, few-frames s F M D w) in
+        rw (table-at (λ f. emptied (startHead s F f)) noFrame 32 f inside, lt-leb F f l)
+
+    pub message-at : (m : ℕ) → m < M → messageAt node m ≡ messageCell m
+    unfolding startOf startMessages startMessageOrNone
+    message-at m l =
+        let inside : m < 32 = omega (arith, few-messages s F M D w) in
+        rw (table-at (startMessageOrNone s F M D) noMessage 32 m inside, lt-ltb m M l)
+
+    field-at : (d : ℕ) → d < D → fieldAt node d ≡ fieldCell d
+    unfolding startOf startFields startField
+    field-at d l =
+        let inside : d < 128 = omega (arith, w .fields-few) in
+        rw (table-at (startField s (F + M) D) noField 128 d inside, lt-leb D d l)
+
+    -- ---- a frame
+
+    sound-frame : (f : ℕ) → f < F → SoundFrame (frameCell f)
+    sound-frame f l =
+        let r = w .frames f l in
+        record {
+          length-from = r .length-from;
+          length-to = r .length-to;
+          order = r .order;
+          direction = r .direction;
+          trigger = r .trigger;
+          delivered = omega arith;
+          room = refl;
+        }
+
+    -- ---- a message
+
+    -- the message's fields in the file are those in the node
+    counted : (m : ℕ) → fieldsOf s m (F + M + D) ≡ count m
+    unfolding isFieldOf records.isField
+    counted m =
+        let all = tally-from (isFieldOf s m) (names s (F + M) m) (F + M) D (λ k l. rw (w .fields k l .kind)) in
+        omega (arith, all, none-before s F M D (kinds s F M D w) m)
+
+    module _ (m : ℕ) (l : m < M) where
+      some-field : 1 ≤ count m
+      some-field = rw (counted m) at (w .some-field m l)
+
+      run : Stretch (names s (F + M) m) D (first m) (count m)
+      run = stretch (names s (F + M) m) D some-field (simp meanings (together s F M D w m))
+
+      first-below : first m < D
+      first-below = omega (arith, some-field, run .ends)
+
+      first-names : field (first m) .message ≡ m
+      first-names = eqb-true _ _ (run .inside (first m) (omega arith) (omega (arith, some-field)))
+
+      sound-message : SoundMessage node (messageCell m)
+      unfolding startMessage startOf isWidth
+      sound-message =
+          let r = w .messages m l in
+          let its-first = w .fields (first m) first-below in
+          let held = extended-held _ _ _ (r .initial .fits) in
+          record {
+            width = simp meanings (r .width-from, r .width-to);
+            sign = r .sign;
+            direction = r .direction;
+            agreement = r .agreement;
+            filter = r .filter;
+            statusbit = its-first .status;
+            heard = λ sent. rw first-names at (its-first .heard) (eqb-true _ _ sent);
+            x1 = r .x1 .fits;
+            x2 = r .x2 .fits;
+            valid = at-most-one (eqb (field (first m) .status) 0);
+            status = inr (inr (inl refl));
+            held = held;
+            old = held;
+            some-field = some-field;
+            few-fields = rw (counted m) at (w .eight-fields m l);
+            in-count = run .ends;
+          }
+
+      run-names : (d : ℕ) → messageAt node m .first ≤ d → d < messageAt node m .first + messageAt node m .fields → fieldAt node d .message ≡ m
+      unfolding startMessage
+      run-names =
+          rw (message-at m l) (λ d low high. rw (field-at d (omega (arith, run .ends))) (eqb-true _ _ (run .inside d low high)))
+
+    -- ---- a field
+
+    module _ (d : ℕ) (l : d < D) where
+      its-message : messageAt node (field d .message) ≡ messageCell (field d .message)
+      its-message = message-at (field d .message) (w .fields d l .message)
+
+      its-frame : frameAt node (field d .frame) ≡ frameCell (field d .frame)
+      its-frame = frame-at (field d .frame) (w .fields d l .frame)
+
+      in-run : (first (field d .message) ≤ d) × (d < first (field d .message) + count (field d .message))
+      in-run = run (field d .message) (w .fields d l .message) .only d l (eq-eqb (field d .message) (field d .message) refl)
+
+      status-alike : field d .status ≡ field (first (field d .message)) .status
+      status-alike =
+          let m = field d .message in
+          ⊎-elim (λ (same : first m ≡ d). ap (λ (k : ℕ). field k .status) (sym same))
+          (λ (earlier : first m < d). sym (w .alike (first m) d earlier l (first-names m (w .fields d l .message))))
+          (eq-or-lt-of-le (in-run .0))
+
+      -- the bits of the field lie where the file says
+      message-places : messagePlaces node (fieldCell d) ≡ laid.messagePlaces (isBig d) (itsMessage s F M (field d)) (field d)
+      unfolding startMessage
+      message-places = rw (its-message, its-frame) (message-placed s F M D w d l)
+
+      status-places : itsStatusPlaces node (fieldCell d) ≡ laid.statusPlaces (isBig d) (field d)
+      unfolding statusPlaces places bitPlaces
+      status-places = rw its-frame (go (field d .status) refl (w .fields d l .status))
+        where
+          go :
+              (k : ℕ) → field d .status ≡ k → k ≤ 1
+              → statusPlaces (itsFrame s F M (field d) .length) (frameCell (field d .frame) .head) (fieldCell d)
+              ≡ laid.statusPlaces (isBig d) (field d)
+          go zero absent few = rw absent refl
+          go (suc zero) present few = rw present (rw present at (status-placed s F M D w d l present))
+          go (suc (suc k)) more few = absurd (omega arith)
+
+      sound-field : SoundField node d (fieldCell d)
+      unfolding startOf startMessage inFrame
+      sound-field =
+          let r = w .fields d l in
+          let g = w .messages (field d .message) (r .message) in
+          let last = field d .start + itsMessage s F M (field d) .width - 1 in
+          record {
+            message = r .message;
+            frame = r .frame;
+            directions = rw (its-message, its-frame) (r .directions);
+            status = rw its-message status-alike;
+            stage = inr (inr refl);
+            run-from = rw its-message (in-run .0);
+            run-to = rw its-message (in-run .1);
+            lies = rw (its-message, its-frame) (simp meanings (g .width-to, omega (arith, r .inside last (inl (omega arith)))));
+            status-lies = λ present. rw its-frame (simp meanings (omega (arith, r .inside (field d .place) (inr (present, refl)))));
+            once = rw (message-places, status-places) (own-disjoint s F M D w d l);
+          }
+
+    -- ---- two fields of one frame, and the node
+
+    fields-apart : (d e : ℕ) → d < e → e < D → field d .frame ≡ field e .frame → Apart node (fieldCell d) (fieldCell e)
+    fields-apart d e h l same =
+        let b : d < D = omega arith in
+        let separate = fields-separate s F M D w d b e l (omega arith) same in
+        record {
+          bits-bits = rw (message-places d b, message-places e l, ← same) (separate .message-message);
+          bits-status = rw (message-places d b, status-places e l, ← same) (separate .message-status);
+          status-bits = rw (status-places d b, message-places e l, ← same) (separate .status-message);
+          status-status = rw (status-places d b, status-places e l, ← same) (separate .status-status);
+        }
+
+    pub sound-start : Sound node
+    unfolding startOf startFrames startMessages startFields
+    sound-start =
+        record {
+          frame-cells = table-length _ 0 32;
+          message-cells = table-length _ 0 32;
+          field-cells = table-length _ 0 128;
+          few-frames = few-frames s F M D w;
+          few-messages = few-messages s F M D w;
+          few-fields = w .fields-few;
+          frames = λ f l. rw (frame-at f l) (sound-frame f l);
+          messages = λ m l. rw (message-at m l) (sound-message m l);
+          fields = λ d l. rw (field-at d l) (sound-field d l);
+          run = λ m d l. run-names m l d;
+          rising = λ d e h l. rw (field-at d (omega arith), field-at e l) (frames-rise s F M D w d e h l);
+          apart = λ d e h l. rw (field-at d (omega arith), field-at e l) (fields-apart d e h l);
+        }
+
+-- ---- a load
+
+-- the number of a refusal is not 0
+test-number : {s : List ℕ} {i : ℕ} {c : Counts} {k : ℕ} → Fails s i c k → 1 ≤ k
+test-number (Fails.order o e) = omega arith
+test-number (Fails.range o r e) = omega arith
+test-number (Fails.ref o r f e) = omega arith
+test-number (Fails.group o r f g e) = omega arith
+test-number (Fails.place o r f g p e) = omega arith
+
+refusal-number : {s : List ℕ} {k r : ℕ} → Refusal s k r → 1 ≤ k
+refusal-number (Refusal.size fault e at) = omega arith
+refusal-number (Refusal.test sized below before fault) = test-number fault
+refusal-number (Refusal.no-field sized all m lacking e at) = omega arith
+
+-- the file is well laid out, and the load makes its node
+pub record Makes (n : Node) (s : List ℕ) : Type 0 where
+  pub frames : ℕ
+  pub messages : ℕ
+  pub fields : ℕ
+  pub well-laid : WellLaid s frames messages fields
+  pub node : loadOf n s .node ≡ startOf s frames messages fields
+
+pub load-makes : (n : Node) (s : List ℕ) → loadOf n s .answer ≡ 0 → Makes n s
+unfolding loadOf
+load-makes n s = go (verdict s) refl
+  where
+    go : (v : Verdict) → verdict s ≡ v → loaded n s v .answer ≡ 0 → Makes n s
+    go (Verdict.Accepted F M D) e done =
+        record { frames = F; messages = M; fields = D; well-laid = accepted s F M D .0 e; node = rw e }
+    go (Verdict.Refused number at) e done = absurd (omega (arith, refusal-number (refused s number at .0 e)))
+
+pub sound-load : (n : Node) (s : List ℕ) → loadOf n s .answer ≡ 0 → Sound (loadOf n s .node)
+sound-load n s done =
+    let made = load-makes n s done in
+    rw (made .node) (sound-start s (made .frames) (made .messages) (made .fields) (made .well-laid))

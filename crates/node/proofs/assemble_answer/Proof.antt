@@ -1,0 +1,82 @@
+-- `node::assemble_answer` meets its contract: the tests in the code's order, each of what was read. Assumes nothing.
+use mathlib.Core.Path.{ap, sym, _∙_}
+use native.Mathlib.Omega.{arith}
+use borrow.Author.Needs.{needs}
+use borrow.Author.Tests.{lt-ltb, le-ltb}
+use Rattle.layout.specs.declared.Counts.{Counts}
+use Rattle.node.specs.Calls.{assembleAnswer}
+use Rattle.node.proofs.assemble_answer.Statement.{statement}
+use Rattle.node.proofs.assemble_answer.Tie as tie
+
+counts-requires : tie.Need-counts-requires
+counts-requires c κs = search needs
+
+returns : tie.Need-returns
+unfolding assembleAnswer
+returns c = rw (le-ltb _ _ (rw (c .before .counts .ensures) at (c .if1 .taken)))
+
+head-at-requires : tie.Need-head-at-requires
+head-at-requires c κs =
+    (omega (arith, ap (λ (k : Counts). k .frames) (c .before .counts .ensures)), c .before .before .before .pre)
+
+returns-2 : tie.Need-returns-2
+unfolding assembleAnswer
+returns-2 c =
+    let number = c .before .before .before in
+    rw (lt-ltb _ _ (rw (number .before .counts .ensures) at (number .if1 .left)), rw (c .before .before .head-at .ensures) at (c .if2 .taken))
+
+cast-if3 : tie.Need-cast-if3
+cast-if3 c = search needs
+
+returns-3 : tie.Need-returns-3
+unfolding assembleAnswer
+returns-3 c =
+    let access = c .before .before in
+    let read = access .before .before .head-at .ensures in
+    let number = access .before .before .before in
+    rw (lt-ltb _ _ (rw (number .before .counts .ensures) at (number .if1 .left)), rw read at (access .if2 .left))
+    (rw (rw read at (c .if3 .taken)))
+
+cast-is-suppressed : tie.Need-cast-is-suppressed
+cast-is-suppressed c =
+    omega (arith, ap (λ (k : Counts). k .frames) (c .before .before .before .before .before .before .counts .ensures))
+
+is-suppressed-requires : tie.Need-is-suppressed-requires
+is-suppressed-requires c κs =
+    let counts = c .before .before .before .before .before .before in
+    (omega (arith, ap (λ (k : Counts). k .frames) (counts .counts .ensures)), counts .before .before .pre)
+
+returns-4 : tie.Need-returns-4
+unfolding assembleAnswer
+returns-4 c =
+    let size = c .before .before in
+    let access = size .before .before in
+    let read = access .before .before .head-at .ensures in
+    let number = access .before .before .before in
+    rw (lt-ltb _ _ (rw (number .before .counts .ensures) at (number .if1 .left)), rw read at (access .if2 .left))
+    (rw (rw read at (size .if3 .left), sym (c .before .is-suppressed .ensures) ∙ c .if4 .taken))
+
+returns-5 : tie.Need-returns-5
+unfolding assembleAnswer
+returns-5 c =
+    let size = c .before .before in
+    let access = size .before .before in
+    let read = access .before .before .head-at .ensures in
+    let number = access .before .before .before in
+    rw (lt-ltb _ _ (rw (number .before .counts .ensures) at (number .if1 .left)), rw read at (access .if2 .left))
+    (rw (rw read at (size .if3 .left), sym (c .before .is-suppressed .ensures) ∙ c .if4 .left))
+
+pub assemble-answer-spec : {M : Type 1} → statement M
+assemble-answer-spec =
+    tie.close
+    (tie.spec
+    counts-requires
+    returns
+    head-at-requires
+    returns-2
+    cast-if3
+    returns-3
+    cast-is-suppressed
+    is-suppressed-requires
+    returns-4
+    returns-5)

@@ -1,0 +1,203 @@
+-- What each call on a node means: its answer, and the node and the caller's memory afterwards. The tests come in the paper's order 16, 17, 18, 19, 23.
+-- Assumes nothing.
+use mathlib.Core.Bool.{Bool, true, false, not, cond, _&&_}
+use mathlib.Core.List.{List, [], _∷_}
+use Prim.Native.Nat.{ℕ}
+use lib.Dec.{eqb, ltb}
+use lib.IntN.{ℤ}
+use lib.ListN.{length, take}
+use Rattle.whole.specs.Whole.{allOf}
+use Rattle.packing.specs.Places.{placesIn, packed}
+use Rattle.packing.specs.Values.{inRange, patternOf}
+use Rattle.filter.specs.Filter.{passes}
+use Rattle.store.specs.declared.Stage.{Stage}
+use Rattle.store.specs.declared.Stage.the-variants.{Waiting, Loaded, Gone}
+use Rattle.store.specs.declared.Head.{Head}
+use Rattle.store.specs.declared.Message.{Message}
+use Rattle.store.specs.declared.Field.{Field}
+use Rattle.store.specs.Node.{Frame, Node, frameCount, messageCount, isSigned, isSent, isValid, hasStatusBit, isBig, isSentFrame, isEvent, nodeOf, frameAt, messageAt, marked, filled, withFields, withMessage, withFrame}
+use Rattle.node.specs.declared.Owner.{Owner}
+use Rattle.node.specs.declared.Change.{Change}
+use Rattle.node.specs.Own.{changed, own, fieldsOf}
+
+-- ---- outcomes
+
+-- what a call leaves: its answer, and the node
+pub record Outcome : Type 0 where
+  pub answer : ℕ
+  pub node : Node
+
+-- the node that the memory holds afterwards
+abbrev pub left : ℕ → List ℕ → Outcome
+left a b = record { answer = a; node = nodeOf b }
+
+-- with answer 0 the changed node, with any other the node as it was
+abbrev pub outcome : ℕ → Node → Node → Outcome
+outcome a after before = record { answer = a; node = cond (eqb a 0) after before }
+
+-- a message with another validity, status, held and old value
+abbrev pub withState : Message → ℕ → ℕ → ℤ → ℤ → Message
+withState g valid status held old =
+    record {
+      width = g .width;
+      sign = g .sign;
+      direction = g .direction;
+      agreement = g .agreement;
+      filter = g .filter;
+      statusbit = g .statusbit;
+      valid = valid;
+      status = status;
+      first = g .first;
+      fields = g .fields;
+      x1 = g .x1;
+      x2 = g .x2;
+      held = held;
+      old = old;
+    }
+
+-- a field at another stage
+abbrev pub staged : Stage → Field → Field
+staged s x = record { message = x .message; frame = x .frame; start = x .start; status = x .status; place = x .place; stage = s }
+
+-- a sending makes a field waiting at whatever stage it is; an assembly makes a waiting one loaded; consuming makes a loaded one gone
+abbrev pub stageAfter : Change → Stage → Stage
+stageAfter Change.Send Waiting = Waiting
+stageAfter Change.Send Loaded = Waiting
+stageAfter Change.Send (Gone k) = Waiting
+stageAfter Change.Load Waiting = Loaded
+stageAfter Change.Load Loaded = Loaded
+stageAfter Change.Load (Gone k) = Gone k
+stageAfter Change.Consume Waiting = Waiting
+stageAfter Change.Consume Loaded = Gone 2
+stageAfter Change.Consume (Gone k) = Gone k
+
+-- ---- send
+
+unfoldable pub sendAnswer : Node → ℕ → ℤ → ℕ
+sendAnswer n m v =
+    cond (not (ltb m (messageCount n))) 16
+    (cond (not (isSent (messageAt n m))) 17
+    (cond (not (inRange (isSigned (messageAt n m)) (messageAt n m .width) v)) 18 0))
+
+-- the message's filter passes the value
+unfoldable pub passesNow : Message → ℤ → Bool
+passesNow g v = passes (g .filter) (isSigned g) (g .x1) (g .x2) v (g .old)
+
+-- if it passes it is held and the message is valid; if not, the held value stays and the message is invalid; either way it is the next old value
+unfoldable pub offered : Message → ℤ → Message
+offered g v = cond (passesNow g v) (withState g 1 (g .status) v v) (withState g 0 (g .status) (g .held) v)
+
+-- the fields of a message or a frame move on by a change
+abbrev pub moved : Change → Owner → Node → Node
+moved c o n = withFields n (changed (own n o) (λ d x. staged (stageAfter c (x .stage)) x) 0 (n .fields))
+
+unfoldable pub sendOf : Node → ℕ → ℤ → Outcome
+sendOf n m v = outcome (sendAnswer n m v) (withMessage (moved Change.Send (Owner.Message m) n) m (offered (messageAt n m) v)) n
+
+-- ---- invalidate
+
+unfoldable pub invalidateAnswer : Node → ℕ → ℕ
+invalidateAnswer n m =
+    cond (not (ltb m (messageCount n))) 16 (cond (not (isSent (messageAt n m))) 17 (cond (not (hasStatusBit (messageAt n m))) 19 0))
+
+abbrev pub invalidated : Message → Message
+invalidated g = withState g 0 (g .status) (g .held) (g .old)
+
+unfoldable pub invalidateOf : Node → ℕ → Outcome
+invalidateOf n m = outcome (invalidateAnswer n m) (withMessage n m (invalidated (messageAt n m))) n
+
+-- ---- assemble
+
+-- an event frame with at least one field, all of whose messages are invalid
+abbrev pub isEmpty : List Field → Bool
+isEmpty [] = true
+isEmpty (x ∷ l) = false
+
+abbrev pub invalidIn : Node → Field → Bool
+invalidIn n x = not (isValid (messageAt n (x .message)))
+
+unfoldable pub suppressed : Node → ℕ → Bool
+suppressed n f =
+    isEvent (frameAt n f .head) && (not (isEmpty (fieldsOf n (Owner.Frame f))) && allOf (invalidIn n) (fieldsOf n (Owner.Frame f)))
+
+unfoldable pub assembleAnswer : Node → ℕ → ℕ → ℕ
+assembleAnswer n f size =
+    cond (not (ltb f (frameCount n))) 16
+    (cond (not (isSentFrame (frameAt n f .head))) 17
+    (cond (not (eqb size (frameAt n f .head .length))) 18 (cond (suppressed n f) 23 0)))
+
+-- a field's status bit in a frame of that many bytes: no place where it has none
+unfoldable pub statusPlaces : ℕ → Head → Field → List ℕ
+statusPlaces size h x = cond (eqb (x .status) 1) (placesIn size (isBig h) (x .place) 1) []
+
+-- a field of message g writes the held value and, if present, its status bit
+unfoldable pub writes : Head → Message → Field → List ℕ → List ℕ
+writes h g x b =
+    packed (statusPlaces (length b) h x) (cond (isValid g) 1 0) (packed (placesIn (length b) (isBig h) (x .start) (g .width)) (patternOf 32 (g .held)) b)
+
+-- each field in turn
+unfoldable pub written : Node → Head → List Field → List ℕ → List ℕ
+written n h [] b = b
+written n h (x ∷ l) b = written n h l (writes h (messageAt n (x .message)) x b)
+
+unfoldable pub assembleOf : Node → ℕ → ℕ → Outcome
+assembleOf n f size = outcome (assembleAnswer n f size) (moved Change.Load (Owner.Frame f) n) n
+
+-- the caller's buffer afterwards
+unfoldable pub assembled : Node → ℕ → List ℕ → List ℕ
+assembled n f b = cond (eqb (assembleAnswer n f (length b)) 0) (written n (frameAt n f .head) (fieldsOf n (Owner.Frame f)) b) b
+
+-- ---- consumed
+
+unfoldable pub consumedAnswer : Node → ℕ → ℕ
+consumedAnswer n f = cond (not (ltb f (frameCount n))) 16 (cond (not (isSentFrame (frameAt n f .head))) 17 0)
+
+unfoldable pub consumedOf : Node → ℕ → Outcome
+consumedOf n f = outcome (consumedAnswer n f) (moved Change.Consume (Owner.Frame f) n) n
+
+-- ---- read flag
+
+-- a received message answers 16 too
+unfoldable pub flagAnswer : Node → ℕ → ℕ
+flagAnswer n m = cond (not (ltb m (messageCount n))) 16 (cond (not (isSent (messageAt n m))) 16 0)
+
+abbrev pub isGone : Stage → Bool
+isGone Waiting = false
+isGone Loaded = false
+isGone (Gone k) = true
+
+abbrev pub goneField : Field → Bool
+goneField x = isGone (x .stage)
+
+-- set (1) exactly if all the message's fields are gone, else cleared (0)
+unfoldable pub flagOf : Node → ℕ → ℕ
+flagOf n m = cond (allOf goneField (fieldsOf n (Owner.Message m))) 1 0
+
+-- the caller's place afterwards, where it held p
+unfoldable pub flagPlace : Node → ℕ → ℕ → ℕ
+flagPlace n m p = cond (eqb (flagAnswer n m) 0) (flagOf n m) p
+
+-- ---- deliver
+
+unfoldable pub deliverAnswer : Node → ℕ → ℕ → ℕ
+deliverAnswer n f size =
+    cond (not (ltb f (frameCount n))) 16
+    (cond (isSentFrame (frameAt n f .head)) 17 (cond (not (eqb size (frameAt n f .head .length))) 18 0))
+
+-- a delivery is kept, in place of an earlier one (a frame has at most 32 bytes)
+unfoldable pub kept : Frame → List ℕ → Frame
+kept h d = marked 1 (filled h (take 32 d))
+
+-- with invalid status the call changes nothing, after the tests
+unfoldable pub deliverOf : Node → ℕ → Bool → List ℕ → Outcome
+deliverOf n f ok d = outcome (deliverAnswer n f (length d)) (cond ok (withFrame n f (kept (frameAt n f) d)) n) n
+
+-- ---- receive
+
+-- the status of the last closing
+unfoldable pub receiveAnswer : Node → ℕ → ℕ
+receiveAnswer n m = cond (not (ltb m (messageCount n))) 16 (cond (isSent (messageAt n m)) 17 (messageAt n m .status))
+
+-- and with 0 the held value, into the caller's place, which held p
+unfoldable pub receivedPlace : Node → ℕ → ℤ → ℤ
+receivedPlace n m p = cond (eqb (receiveAnswer n m) 0) (messageAt n m .held) p

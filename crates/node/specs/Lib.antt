@@ -1,0 +1,5 @@
+pub mod Own
+pub mod Calls
+pub mod Closing
+pub mod Load
+pub mod Sound

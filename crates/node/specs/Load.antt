@@ -1,0 +1,17 @@
+-- Loading: the verdict on the file, and then the node of an accepted layout; a refusal changes nothing.
+-- Assumes nothing.
+use mathlib.Core.List.{List}
+use Prim.Native.Nat.{ℕ, _+_, _*_}
+use Rattle.layout.specs.Verdict.{verdict}
+use Rattle.layout.specs.declared.Verdict.{Verdict}
+use Rattle.store.specs.Node.{Node}
+use Rattle.store.specs.Start.{startOf}
+use Rattle.node.specs.Calls.{Outcome}
+
+-- 0, or the refusal's number and 256 times its record
+abbrev pub loaded : Node → List ℕ → Verdict → Outcome
+loaded n s (Verdict.Accepted F M D) = record { answer = 0; node = startOf s F M D }
+loaded n s (Verdict.Refused number at) = record { answer = number + 256 * at; node = n }
+
+unfoldable pub loadOf : Node → List ℕ → Outcome
+loadOf n s = loaded n s (verdict s)

@@ -1,0 +1,62 @@
+-- `store::data_at` meets its contract: what is lent is where the data of the frame lie.
+-- Assumes nothing.
+use mathlib.Core.Path.{ap, sym, _∙_}
+use Prim.Native.Nat.{ℕ, _+_, _*_}
+use borrow.Author.Needs.{needs}
+use Rattle.store.specs.Memory.{part}
+use Rattle.store.specs.Node.{framesAt}
+use Rattle.store.proofs.Parts.{part-lent}
+use Rattle.store.proofs.Places.{data-read}
+use Rattle.store.proofs.data_at.Statement.{statement}
+use Rattle.store.proofs.data_at.Tie as tie
+
+mul-at : tie.Need-mul-at
+mul-at c = search needs
+
+add-at : tie.Need-add-at
+add-at c = search needs
+
+add-from : tie.Need-add-from
+add-from c = search needs
+
+shared-slice-read-least : tie.Need-shared-slice-read-least
+shared-slice-read-least c = search needs
+
+least-requires : tie.Need-least-requires
+least-requires c κs = search needs
+
+add-end : tie.Need-add-end
+add-end c = search needs
+
+sub-result : tie.Need-sub-result
+sub-result c = search needs
+
+part-result-start : tie.Need-part-result-start
+part-result-start c = search needs
+
+part-result-end : tie.Need-part-result-end
+part-result-end c = search needs
+
+returns : tie.Need-returns
+returns c =
+    let s = c .before .before .before .before in
+    let node = s .args .node .now in
+    let from : ℕ = framesAt + s .args .f * 37 + 5 in
+    part-lent node from (c .before .least .result)
+    ∙ ap (part node from) (c .before .least .ensures)
+    ∙ sym (data-read node (s .pre .1) (s .args .f) (s .pre .0))
+
+pub data-at-spec : {M : Type 1} → statement M
+data-at-spec =
+    tie.close
+    (tie.spec
+    mul-at
+    add-at
+    add-from
+    shared-slice-read-least
+    least-requires
+    add-end
+    sub-result
+    part-result-start
+    part-result-end
+    returns)

@@ -178,15 +178,15 @@ module _ {n : Node} (s : Sound n) {F : List Frame} {M : List Message} {D : List 
 -- ---- the steps of a sound node's regions
 
 stage-after : (c : Change) (t : Stage) → IsStage t → IsStage (stageAfter c t)
-stage-after Change.Send Waiting h = inl refl
-stage-after Change.Send Loaded h = inl refl
-stage-after Change.Send (Gone k) h = inl refl
-stage-after Change.Load Waiting h = inr (inl refl)
-stage-after Change.Load Loaded h = h
-stage-after Change.Load (Gone k) h = h
-stage-after Change.Consume Waiting h = h
-stage-after Change.Consume Loaded h = inr (inr refl)
-stage-after Change.Consume (Gone k) h = h
+stage-after Change.Send Waiting h = search (inl, inr, refl)
+stage-after Change.Send Loaded h = search (inl, inr, refl)
+stage-after Change.Send (Gone k) h = search (inl, inr, refl)
+stage-after Change.Load Waiting h = search (inl, inr, refl)
+stage-after Change.Load Loaded h = search (inl, inr, refl)
+stage-after Change.Load (Gone k) h = search (inl, inr, refl)
+stage-after Change.Consume Waiting h = search (inl, inr, refl)
+stage-after Change.Consume Loaded h = search (inl, inr, refl)
+stage-after Change.Consume (Gone k) h = search (inl, inr, refl)
 
 module _ {n : Node} (s : Sound n) where
   frame-stays : (f : ℕ) → f < n .frame-number → FrameStep (frameAt n f) (frameAt n f)

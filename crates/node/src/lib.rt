@@ -640,14 +640,14 @@ fn with_status(g: Message, status: u8) -> Message
 }
 
 // The message after an agreed value was put to its filter.
-fn filtered_message(g: Message, value: i64) -> Message
-    ensures { λ r. ⌜ r ≡ filtered g value ⌝ }
+fn filtered_message(g: Message, agreed: i64) -> Message
+    ensures { λ r. ⌜ r ≡ filtered g agreed ⌝ }
 {
     let mut h = g;
-    h.old = value;
-    if is_passed(g, value) {
+    h.old = agreed;
+    if is_passed(g, agreed) {
         h.status = 0;
-        h.held = value;
+        h.held = agreed;
         return h;
     }
     h.status = 21;

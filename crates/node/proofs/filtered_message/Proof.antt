@@ -17,16 +17,16 @@ returns-passed : tie.Need-returns
 unfolding filtered
 returns-passed c =
     let start = c .before .before in
-    let value = toZ-ofZ w64 (start .args .value) (start .fits .value) in
-    let passed : passesNow (start .args .g) (start .args .value) ≡ true = rw value at (sym (c .before .is-passed .ensures) ∙ c .if1 .taken) in
+    let value = toZ-ofZ w64 (start .args .agreed) (start .fits .agreed) in
+    let passed : passesNow (start .args .g) (start .args .agreed) ≡ true = rw value at (sym (c .before .is-passed .ensures) ∙ c .if1 .taken) in
     rw (value, passed) refl
 
 returns-stopped : tie.Need-returns-2
 unfolding filtered
 returns-stopped c =
     let start = c .before .before in
-    let value = toZ-ofZ w64 (start .args .value) (start .fits .value) in
-    let passed : passesNow (start .args .g) (start .args .value) ≡ false = rw value at (sym (c .before .is-passed .ensures) ∙ c .if1 .left) in
+    let value = toZ-ofZ w64 (start .args .agreed) (start .fits .agreed) in
+    let passed : passesNow (start .args .g) (start .args .agreed) ≡ false = rw value at (sym (c .before .is-passed .ensures) ∙ c .if1 .left) in
     rw (value, passed) refl
 
 pub filtered-message-spec : {M : Type 1} → statement M

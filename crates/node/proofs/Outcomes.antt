@@ -1,18 +1,11 @@
 -- What a call leaves, from what its code knows where it returns: with an answer other than 0 the memory is untouched, and with answer 0 it holds the
 -- changed node. Assumes nothing.
-use mathlib.Core.Path.{_≡_, refl, _∙_}
-use mathlib.Core.Bool.{Bool, true, false, cond}
+use mathlib.Core.Path.{_≡_, _∙_}
 use mathlib.Core.List.{List}
 use Prim.Native.Nat.{ℕ}
-use mir.Val.{boolByte}
 use borrow.Author.Tests.{ne-eqb}
 use Rattle.store.specs.Node.{Node, nodeOf}
 use Rattle.node.specs.Calls.{left, outcome}
-
--- a test as a number
-pub as-number : (t : Bool) → boolByte t ≡ cond t 1 0
-as-number true = refl
-as-number false = refl
 
 module _ (a : ℕ) (b : List ℕ) (after : Node) where
   pub untouched : {r : ℕ} → r ≡ a → (r ≡ 0 → ⊥) → left r b ≡ outcome a after (nodeOf b)

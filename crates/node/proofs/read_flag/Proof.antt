@@ -5,10 +5,10 @@ use Prim.Native.Nat.{_<_}
 use native.Mathlib.Omega.{arith}
 use borrow.Author.Needs.{needs}
 use borrow.Author.Tests.{ne-eqb}
+use Rattle.whole.proofs.Integers.{as-number}
 use Rattle.store.specs.Node.{nodeOf}
 use Rattle.node.specs.Calls.{flagAnswer, flagOf, flagPlace}
 use Rattle.node.proofs.Answers.{in-memory}
-use Rattle.node.proofs.Outcomes.{as-number}
 use Rattle.node.proofs.read_flag.Statement.{statement}
 use Rattle.node.proofs.read_flag.Tie as tie
 

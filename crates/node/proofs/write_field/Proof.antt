@@ -7,12 +7,12 @@ use mir.Syntax.{w64}
 use mir.ValLaws.{toZ-ofZ}
 use borrow.Author.Needs.{needs}
 use borrow.Author.Tests.{eq-eqb, ne-eqb}
+use Rattle.whole.proofs.Integers.{as-number}
 use Rattle.packing.specs.Places.{placesIn, packed}
 use Rattle.packing.specs.Values.{patternOf}
 use Rattle.packing.proofs.Frame.{packed-length}
 use Rattle.store.specs.Node.{isValid, isBig}
 use Rattle.node.specs.Calls.{statusPlaces, writes}
-use Rattle.node.proofs.Outcomes.{as-number}
 use Rattle.node.proofs.write_field.Statement.{statement}
 use Rattle.node.proofs.write_field.Tie as tie
 

@@ -2,24 +2,20 @@
 -- 32-bit pattern.
 -- Assumes nothing.
 use mathlib.Core.Path.{_≡_, refl}
-use mathlib.Core.Bool.{Bool, true, false, cond}
+use mathlib.Core.Bool.{Bool, true}
 use Prim.Native.Nat.{_^_, _<_}
 use native.Mathlib.Omega.{arith}
 use lib.Dec.{eqb}
 use mir.Syntax.{w64}
-use mir.Val.{boolByte, toZ, ofZ}
+use mir.Val.{toZ, ofZ}
 use mir.ValLaws.{toZ-ofZ}
 use borrow.Author.Needs.{needs}
+use Rattle.whole.proofs.Integers.{as-number}
 use Rattle.packing.specs.Values.{isWidth, inRange}
 use Rattle.packing.proofs.Values.{value-range}
 use Rattle.store.specs.Start.{startMessage}
 use Rattle.store.proofs.start_message.Statement.{statement}
 use Rattle.store.proofs.start_message.Tie as tie
-
--- a test as a number
-flag : (b : Bool) → boolByte b ≡ cond b 1 0
-flag true = refl
-flag false = refl
 
 add-message-at : tie.Need-add-message-at
 add-message-at c = search needs
@@ -66,7 +62,7 @@ returns c =
     rw (read, value .value-of .ensures) (value-range signed 32 (g .initial) refl initial) in (
       rw (
         read,
-        flag,
+        as-number,
         c .field-number .ensures .0,
         value .value-of .ensures,
         field .field-at .ensures,

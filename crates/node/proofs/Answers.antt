@@ -8,7 +8,7 @@ use lib.Dec.{ltb, eqb}
 use lib.IntN.{ℤ}
 use borrow.Author.Tests.{ltb-true, eqb-true, not-false}
 use Rattle.packing.specs.Values.{inRange}
-use Rattle.store.specs.Node.{Node, frameCount, messageCount, isSigned, isSent, isSentFrame, frameAt, messageAt}
+use Rattle.store.specs.Node.{Node, frameCount, messageCount, isSigned, isSent, hasStatusBit, isSentFrame, frameAt, messageAt}
 use Rattle.node.specs.Calls.{sendAnswer, invalidateAnswer, assembleAnswer, deliverAnswer, receiveAnswer}
 
 -- one test, and the tests after it
@@ -36,9 +36,19 @@ module _ (n : Node) where
       let value = passed (not (inRange (isSigned (messageAt n m)) (messageAt n m .width) v)) _ _ (access .1) in
       (omega arith, not-false _ (value .0))
 
+  pub send-access : (m : ℕ) (v : ℤ) → sendAnswer n m v ≡ 0 → isSent (messageAt n m) ≡ true
+  unfolding sendAnswer
+  send-access m v e = not-false _ (passed (not (isSent (messageAt n m))) _ _ (known m (n .message-number) _ _ e .1) .0)
+
   pub invalidate-tests : (m : ℕ) → invalidateAnswer n m ≡ 0 → m < n .message-number
   unfolding invalidateAnswer
   invalidate-tests m e = omega (arith, known m (n .message-number) _ _ e)
+
+  pub invalidate-status : (m : ℕ) → invalidateAnswer n m ≡ 0 → hasStatusBit (messageAt n m) ≡ true
+  unfolding invalidateAnswer
+  invalidate-status m e =
+      let access = passed (not (isSent (messageAt n m))) _ _ (known m (n .message-number) _ _ e .1) in
+      not-false _ (passed (not (hasStatusBit (messageAt n m))) _ _ (access .1) .0)
 
   pub assemble-tests : (f size : ℕ) → assembleAnswer n f size ≡ 0 → size ≡ frameAt n f .head .length
   unfolding assembleAnswer
@@ -48,9 +58,17 @@ module _ (n : Node) where
       let value = passed (not (eqb size (frameAt n f .head .length))) _ _ (access .1) in
       eqb-true size (frameAt n f .head .length) (not-false _ (value .0))
 
-  pub deliver-tests : (f size : ℕ) → deliverAnswer n f size ≡ 0 → f < frameCount n
+  pub assemble-access : (f size : ℕ) → assembleAnswer n f size ≡ 0 → isSentFrame (frameAt n f .head) ≡ true
+  unfolding assembleAnswer
+  assemble-access f size e = not-false _ (passed (not (isSentFrame (frameAt n f .head))) _ _ (known f (n .frame-number) _ _ e .1) .0)
+
+  pub deliver-tests : (f size : ℕ) → deliverAnswer n f size ≡ 0 → (f < frameCount n) × (size ≡ frameAt n f .head .length)
   unfolding deliverAnswer
-  deliver-tests f size e = known f (n .frame-number) _ _ e .0
+  deliver-tests f size e =
+      let number = known f (n .frame-number) _ _ e in
+      let access = passed (isSentFrame (frameAt n f .head)) _ _ (number .1) in
+      let value = passed (not (eqb size (frameAt n f .head .length))) _ _ (access .1) in
+      (number .0, eqb-true size (frameAt n f .head .length) (not-false _ (value .0)))
 
   pub receive-tests : (m : ℕ) → receiveAnswer n m ≡ 0 → m < messageCount n
   unfolding receiveAnswer

@@ -1,4 +1,6 @@
 pub mod Answers
+pub mod Closed
+pub mod Delivered
 pub mod Instances
 pub mod Kept
 pub mod Lists

@@ -18,6 +18,12 @@ pub by-test : {A : Type 0} (P : A → Type 0) (t : Bool) {a b : A} → (t ≡ tr
 by-test P true one other = one refl
 by-test P false one other = other refl
 
+-- two choices by one test are related as both their sides are
+pub same-test : {A : Type 0} (R : A → A → Type 0) (t : Bool) {a b a′ b′ : A} → (t ≡ true → R a a′) → (t ≡ false → R b b′)
+    → R (cond t a b) (cond t a′ b′)
+same-test R true one other = one refl
+same-test R false one other = other refl
+
 -- ---- the elements after a change
 
 module _ {A : Type 0} (p : ℕ → A → Bool) (g : ℕ → A → A) where

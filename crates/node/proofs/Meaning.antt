@@ -119,6 +119,10 @@ module _ {n : Node} (s : Sound n) (f : ℕ) (b : List ℕ) where
       chosen-each (own n (Owner.Frame f)) noField (Clear n f ps) k (n .fields)
       (λ d l m t. (eqb-true (fieldAt n d .frame) f (fields-named s d (Owner.Frame f) .0 t .1), h d l t))
 
+  pub assembled-length : assembleAnswer n f (length b) ≡ 0 → length (assembled n f b) ≡ frameAt n f .head .length
+  unfolding assembled
+  assembled-length ok = rw ok (written-length n f (fieldsOf n (Owner.Frame f)) b ∙ assemble-tests n f (length b) ok)
+
   assembled-written : assembleAnswer n f (length b) ≡ 0 → assembled n f b ≡ written n (frameAt n f .head) (fieldsOf n (Owner.Frame f)) b
   unfolding assembled
   assembled-written ok = rw ok refl

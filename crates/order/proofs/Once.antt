@@ -1,0 +1,62 @@
+-- Every public entry point's contract admits a single outcome: most say the outcome as one equation, and a memory is determined by its node.
+-- Assumes nothing.
+use mathlib.Core.Path.{_≡_, ap, ap₂, sym, _∙_}
+use mathlib.Core.List.{List}
+use Prim.Native.Nat.{ℕ}
+use Rattle.store.specs.Node.{Node, nodeOf}
+use Rattle.node.specs.Calls.{Outcome, left}
+use Rattle.node.specs.Load.{loadOf}
+use Rattle.order.specs.Runs.{Call, Seen, Memory, Does}
+use Rattle.order.specs.Once.{Single, Ended, Returned, Once}
+use Rattle.order.proofs.Memories.{by-node, does-means}
+
+one : {A : Type 0} (o : A) → Single (λ (r : A). r ≡ o)
+one o a b p q = p ∙ sym q
+
+one-memory : (n : Node) → Single (λ (e : List ℕ). Memory e × (nodeOf e ≡ n))
+one-memory n a b p q = by-node a b (p .0) (q .0) (p .1 ∙ sym (q .1))
+
+one-call : (b : List ℕ) (c : Call) → Single (λ (o : Ended). Memory (o .memory) × Does b c (o .seen) (o .memory))
+one-call b c x y p q =
+    let here = does-means b c (x .seen) (x .memory) (p .1) in
+    let there = does-means b c (y .seen) (y .memory) (q .1) in
+    ap₂ (λ (s : Seen) (e : List ℕ). record { seen = s; memory = e }) (here .seen ∙ sym (there .seen))
+    (by-node (x .memory) (y .memory) (p .0) (q .0) (here .node ∙ sym (there .node)))
+
+one-load : (b file : List ℕ) → Single (λ (o : Returned). Memory (o .memory) × (left (o .answer) (o .memory) ≡ loadOf (nodeOf b) file))
+one-load b file x y p q =
+    let same = p .1 ∙ sym (q .1) in
+    ap₂ (λ (a : ℕ) (e : List ℕ). record { answer = a; memory = e }) (ap (λ (o : Outcome). o .answer) same)
+    (by-node (x .memory) (y .memory) (p .0) (q .0) (ap (λ (o : Outcome). o .node) same))
+
+pub once : Once
+once =
+    record {
+      pack = λ frame big start width pattern. one _;
+      unpack = λ frame big start width. one _;
+      in-range = λ value width signed. one _;
+      value-of = λ pattern width signed. one _;
+      pattern-of = λ value. one _;
+      is-extended = λ pattern width signed. one _;
+      agree = λ agreement instances. one _;
+      pass = λ filter signed x1 x2 new old. one _;
+      frame-record = λ file i. one _;
+      message-record = λ file i. one _;
+      field-record = λ file i. one _;
+      fields-of = λ file m n. one _;
+      read-layout = λ file. one _;
+      counts = λ b. one _;
+      head-at = λ b f. one _;
+      data-at = λ b f. one _;
+      message-at = λ b m. one _;
+      field-at = λ b d. one _;
+      put-delivered = λ b f k. one-memory _;
+      put-data = λ b f bytes. one-memory _;
+      put-message = λ b m g. one-memory _;
+      put-field = λ b d x. one-memory _;
+      start = λ file frames messages fields. one-memory _;
+      call = one-call;
+      load = one-load;
+      list-file = λ file out a b p q.
+          ap₂ (λ (n : ℕ) (m : List ℕ). record { answer = n; memory = m }) (p .after ∙ sym (q .after)) (p .written ∙ sym (q .written));
+    }

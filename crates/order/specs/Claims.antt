@@ -1,0 +1,57 @@
+-- What holds of all calls together. Each line is a theorem; proofs/Claims.antt says where it is proved.
+-- Assumes nothing.
+use mathlib.Core.Path.{_≡_}
+use mathlib.Core.Bool.{true, false}
+use mathlib.Core.List.{List, [], _∷_}
+use mathlib.Core.Logic.{_↔_}
+use Prim.Native.Nat.{ℕ, _<_}
+use lib.IntN.{ℤ}
+use Rattle.store.specs.Node.{Node, nodeOf, isDelivered, frameAt, messageAt}
+use Rattle.node.specs.Calls.{left, passesNow, assembled}
+use Rattle.node.specs.Closing.{noneCame}
+use Rattle.node.specs.Load.{loadOf}
+use Rattle.node.specs.Sound.{Sound}
+use Rattle.order.specs.Runs.{Call, send, assemble, readFlag, deliver, close, receive}
+use Rattle.order.specs.Runs.{value, Seen, answerOf, lentBefore, seenOf, next, final, Memory, Does}
+use Rattle.order.specs.Order.{carries, Numbered, Result, Reordered, Ran, SameOutcome}
+use Rattle.order.specs.Once.{Once}
+use Rattle.order.specs.Own.{SameValues, SameOwn, SameRound}
+use Rattle.order.specs.Flag.{Sent, AllOut, shows}
+use Rattle.order.specs.Mirror.{Mirrors, goesValid}
+
+pub record Claims : Type 0 where
+  -- Order of calls. From any memory, a reordering of calls that keeps the order of those which name the same message, the same frame, or a frame and a
+  -- message that it carries, gives each call the same answer and the same buffer or place, and the same memory
+  pub order-of-calls : (b : List ℕ) → Memory b → (l₁ l₂ : List Numbered) → Reordered (nodeOf b) l₁ l₂
+      → (r₁ r₂ : List Result) (e₁ e₂ : List ℕ) → Ran b l₁ r₁ e₁ → Ran b l₂ r₂ e₂ → SameOutcome r₁ r₂ e₁ e₂
+  -- One input, one outcome, for every public entry point
+  pub once : Once
+  -- Own bits alone. What a message shows depends on the layout, its earlier values, which of its frames came validly, and its own field and status
+  -- bits; on no other bit of any frame. The same holds of the values that the next closing finds
+  pub own-bits : (n n′ : Node) → Sound n → Sound n′ → (m : ℕ) → SameOwn n n′ m → (p : ℤ)
+      → seenOf (next n close) (receive m p) ≡ seenOf (next n′ close) (receive m p)
+  pub own-values : (n n′ : Node) → Sound n → Sound n′ → (m : ℕ) → SameOwn n n′ m
+      → SameValues (messageAt (next n close) m) (messageAt (next n′ close) m)
+  -- Each round by itself. Whatever bytes earlier rounds left in frames that did not come in this one, every call shows the same and leaves the same
+  -- round; and a closing leaves no frame delivered
+  pub each-round : (n n′ : Node) → Sound n → Sound n′ → SameRound n n′ → (c : Call) → (seenOf n c ≡ seenOf n′ c) × SameRound (next n c) (next n′ c)
+  pub forgotten : (n : Node) → Sound n → (f : ℕ) → f < n .frame-number → isDelivered (frameAt (next n close) f .head) ≡ false
+  -- The flag's history. After the latest send of a message that answered 0, filtered or not, its flag is set exactly if each frame that carries it has
+  -- been assembled with answer 0 and later consumed since that send, and cleared exactly if not; l is any list of calls
+  pub flag-history : (n : Node) → Sound n → (m : ℕ) (v : ℤ) → answerOf n (send m v) ≡ 0
+      → (l : List Call) → (Sent (next n (send m v)) m l → ⊥) → (p : ℕ)
+      → ((seenOf (final n (send m v ∷ l)) (readFlag m p) ≡ shows 1) ↔ AllOut (next n (send m v)) m l)
+      × ((seenOf (final n (send m v ∷ l)) (readFlag m p) ≡ shows 0) ↔ (AllOut (next n (send m v)) m l → ⊥))
+  -- There and back. A value sent, passed by the filter, assembled, and delivered to a node that mirrors the sender is received as sent
+  pub sent-received : (s r : Node) → Sound s → Sound r → Mirrors s r → (f m : ℕ) → carries s f m ≡ true → noneCame r m ≡ true
+      → (v : ℤ) → answerOf s (send m v) ≡ 0 → passesNow (messageAt s m) v ≡ true
+      → (b : List ℕ) → answerOf (next s (send m v)) (assemble f b) ≡ 0 → (p : ℤ)
+      → seenOf (final r (deliver f true (assembled (next s (send m v)) f b) ∷ close ∷ [])) (receive m p) ≡ record { answer = 0; lent = value v }
+  -- and one that goes out with its status bit cleared is answered 22
+  pub cleared-received : (s r : Node) → Sound s → Sound r → Mirrors s r → (f m : ℕ) → carries s f m ≡ true → noneCame r m ≡ true
+      → goesValid (messageAt s m) ≡ false → (b : List ℕ) → answerOf s (assemble f b) ≡ 0 → (p : ℤ)
+      → seenOf (final r (deliver f true (assembled s f b) ∷ close ∷ [])) (receive m p) ≡ record { answer = 22; lent = value p }
+  -- Refusals change nothing: every answer but 0 leaves the node's memory and the caller's as they were
+  pub refusal : (b : List ℕ) (c : Call) (s : Seen) (e : List ℕ) → Memory b → Memory e → Does b c s e → (s .answer ≡ 0 → ⊥)
+      → (e ≡ b) × (s .lent ≡ lentBefore c)
+  pub load-refusal : (b file : List ℕ) (r : ℕ) (e : List ℕ) → Memory b → Memory e → left r e ≡ loadOf (nodeOf b) file → (r ≡ 0 → ⊥) → e ≡ b

@@ -1,0 +1,9 @@
+pub mod Runs
+pub mod Bare
+pub mod Order
+pub mod Once
+pub mod Own
+pub mod Flag
+pub mod Mirror
+pub mod Claims
+pub mod Example

@@ -1,0 +1,82 @@
+-- One input, one outcome: a row for each public entry point of every crate, with what its contract says of an outcome, as in its source.
+-- Assumes nothing.
+use mathlib.Core.Path.{_≡_}
+use mathlib.Core.Bool.{Bool}
+use mathlib.Core.List.{List}
+use Prim.Native.Nat.{ℕ}
+use lib.IntN.{ℤ}
+use lib.ListN.{length}
+use Rattle.packing.specs.Places.{placesIn, packed, unpacked}
+use Rattle.packing.specs.Values.{inRange, valueOf, patternOf, extended}
+use Rattle.agreement.specs.Agreement.{agreed}
+use Rattle.agreement.specs.declared.Agreed.{Agreed}
+use Rattle.filter.specs.Filter.{passes}
+use Rattle.layout.specs.Records.{frameAt as frameRecord, messageAt as messageRecord, fieldAt as fieldRecord}
+use Rattle.layout.specs.Verdict.{fieldsOf, verdict}
+use Rattle.layout.specs.declared.Frame.{Frame as FrameRecord}
+use Rattle.layout.specs.declared.Message.{Message as MessageRecord}
+use Rattle.layout.specs.declared.Field.{Field as FieldRecord}
+use Rattle.layout.specs.declared.Verdict.{Verdict}
+use Rattle.layout.specs.declared.Counts.{Counts}
+use Rattle.listing.specs.Put.{Put}
+use Rattle.listing.specs.Text.{listing}
+use Rattle.store.specs.declared.Head.{Head}
+use Rattle.store.specs.declared.Message.{Message}
+use Rattle.store.specs.declared.Field.{Field}
+use Rattle.store.specs.Node.{nodeOf, countsOf, frameAt, messageAt, fieldAt, dataOf, marked, filled, withFrame, withMessage, withField}
+use Rattle.store.specs.Start.{startOf}
+use Rattle.node.specs.Calls.{left}
+use Rattle.node.specs.Load.{loadOf}
+use Rattle.order.specs.Runs.{Call, Seen, Memory, Does}
+
+-- what a contract says of an outcome holds of one at most
+abbrev pub Single : {A : Type 0} → (A → Type 0) → Type 0
+Single {A} Contract = (a b : A) → Contract a → Contract b → a ≡ b
+
+-- what a call leaves: what its caller sees, and the node's memory
+pub record Ended : Type 0 where
+  pub seen : Seen
+  pub memory : List ℕ
+
+-- what a load leaves, and what the listing does
+pub record Returned : Type 0 where
+  pub answer : ℕ
+  pub memory : List ℕ
+
+pub record Once : Type 0 where
+  -- packing
+  pub pack : (frame : List ℕ) (big : Bool) (start width pattern : ℕ)
+      → Single (λ (after : List ℕ). after ≡ packed (placesIn (length frame) big start width) pattern frame)
+  pub unpack : (frame : List ℕ) (big : Bool) (start width : ℕ) → Single (λ (r : ℕ). r ≡ unpacked (placesIn (length frame) big start width) frame)
+  pub in-range : (value : ℤ) (width : ℕ) (signed : Bool) → Single (λ (r : Bool). r ≡ inRange signed width value)
+  pub value-of : (pattern width : ℕ) (signed : Bool) → Single (λ (r : ℤ). r ≡ valueOf signed width pattern)
+  pub pattern-of : (value : ℤ) → Single (λ (r : ℕ). r ≡ patternOf 32 value)
+  pub is-extended : (pattern width : ℕ) (signed : Bool) → Single (λ (r : Bool). r ≡ extended signed width pattern)
+  -- agreement, filter
+  pub agree : (agreement : ℕ) (instances : List ℤ) → Single (λ (r : Agreed). r ≡ agreed agreement instances)
+  pub pass : (filter : ℕ) (signed : Bool) (x1 x2 : ℕ) (new old : ℤ) → Single (λ (r : Bool). r ≡ passes filter signed x1 x2 new old)
+  -- layout
+  pub frame-record : (file : List ℕ) (i : ℕ) → Single (λ (r : FrameRecord). r ≡ frameRecord file i)
+  pub message-record : (file : List ℕ) (i : ℕ) → Single (λ (r : MessageRecord). r ≡ messageRecord file i)
+  pub field-record : (file : List ℕ) (i : ℕ) → Single (λ (r : FieldRecord). r ≡ fieldRecord file i)
+  pub fields-of : (file : List ℕ) (m n : ℕ) → Single (λ (r : ℕ). r ≡ fieldsOf file m n)
+  pub read-layout : (file : List ℕ) → Single (λ (v : Verdict). v ≡ verdict file)
+  -- store
+  pub counts : (b : List ℕ) → Single (λ (r : Counts). r ≡ countsOf (nodeOf b))
+  pub head-at : (b : List ℕ) (f : ℕ) → Single (λ (r : Head). r ≡ frameAt (nodeOf b) f .head)
+  pub data-at : (b : List ℕ) (f : ℕ) → Single (λ (r : List ℕ). r ≡ dataOf (frameAt (nodeOf b) f))
+  pub message-at : (b : List ℕ) (m : ℕ) → Single (λ (r : Message). r ≡ messageAt (nodeOf b) m)
+  pub field-at : (b : List ℕ) (d : ℕ) → Single (λ (r : Field). r ≡ fieldAt (nodeOf b) d)
+  pub put-delivered : (b : List ℕ) (f k : ℕ)
+      → Single (λ (e : List ℕ). Memory e × (nodeOf e ≡ withFrame (nodeOf b) f (marked k (frameAt (nodeOf b) f))))
+  pub put-data : (b : List ℕ) (f : ℕ) (bytes : List ℕ)
+      → Single (λ (e : List ℕ). Memory e × (nodeOf e ≡ withFrame (nodeOf b) f (filled (frameAt (nodeOf b) f) bytes)))
+  pub put-message : (b : List ℕ) (m : ℕ) (g : Message) → Single (λ (e : List ℕ). Memory e × (nodeOf e ≡ withMessage (nodeOf b) m g))
+  pub put-field : (b : List ℕ) (d : ℕ) (x : Field) → Single (λ (e : List ℕ). Memory e × (nodeOf e ≡ withField (nodeOf b) d x))
+  pub start : (file : List ℕ) (frames messages fields : ℕ)
+      → Single (λ (e : List ℕ). Memory e × (nodeOf e ≡ startOf file frames messages fields))
+  -- node: the eight calls, and loading
+  pub call : (b : List ℕ) (c : Call) → Single (λ (o : Ended). Memory (o .memory) × Does b c (o .seen) (o .memory))
+  pub load : (b file : List ℕ) → Single (λ (o : Returned). Memory (o .memory) × (left (o .answer) (o .memory) ≡ loadOf (nodeOf b) file))
+  -- listing
+  pub list-file : (file out : List ℕ) → Single (λ (o : Returned). Put out (o .memory) 0 (o .answer) (listing file) 4096)

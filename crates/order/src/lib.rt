@@ -1,0 +1,1 @@
+// What holds of all calls together: definitions and theorems, and no code.

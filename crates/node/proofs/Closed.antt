@@ -8,7 +8,7 @@ use native.Mathlib.Omega.{arith}
 use lib.Dec.{ltb}
 use lib.ListN.{length, List·getD-eq-default}
 use borrow.Author.Tests.{lt-ltb, le-ltb}
-use Rattle.store.specs.Node.{Node, frameCount, messageCount, noFrame, noMessage, frameAt, messageAt, marked}
+use Rattle.store.specs.Node.{Node, frameCount, messageCount, noFrame, noMessage, frameAt, messageAt, undelivered}
 use Rattle.node.specs.Closing.{closedMessage, isReceived, closeMessages, forget, closeOf}
 use Rattle.node.specs.Sound.{Sound}
 use Rattle.node.proofs.Lists.{changed-length, changed-at}
@@ -29,8 +29,8 @@ module _ {n : Node} (s : Sound n) where
           rw past (List·getD-eq-default (closeOf n .messages) noMessage end ∙ sym (List·getD-eq-default (n .messages) noMessage (omega arith)))
 
   -- the delivery of a frame is forgotten
-  pub frame-closed : (f : ℕ) → f < n .frame-number → frameAt (closeOf n) f ≡ marked 0 (frameAt n f)
+  pub frame-closed : (f : ℕ) → f < n .frame-number → frameAt (closeOf n) f ≡ undelivered (frameAt n f)
   unfolding closeOf forget closeMessages
   frame-closed f l =
       let known : ltb f (frameCount n) ≡ true = lt-ltb f (frameCount n) (omega arith) in
-      rw known at (changed-at (λ i h. ltb i (frameCount n)) (λ i h. marked 0 h) (n .frames) f noFrame (omega arith))
+      rw known at (changed-at (λ i h. ltb i (frameCount n)) (λ i h. undelivered h) (n .frames) f noFrame (omega arith))

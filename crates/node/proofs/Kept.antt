@@ -17,7 +17,7 @@ use Rattle.agreement.specs.Agreement.{agreed}
 use Rattle.agreement.specs.declared.Agreed.{Agreed}
 use Rattle.agreement.specs.declared.Agreed.the-variants.{Value, NoResult}
 use Rattle.store.specs.declared.Message.{Message}
-use Rattle.store.specs.Node.{Frame, Node, isSigned, frameAt, marked}
+use Rattle.store.specs.Node.{Frame, Node, isSigned, frameAt, undelivered}
 use Rattle.node.specs.declared.Owner.{Owner}
 use Rattle.node.specs.declared.Change.{Change}
 use Rattle.node.specs.Calls.{outcome, passesNow, sendAnswer, offered, sendOf, invalidateAnswer, invalidated, invalidateOf}
@@ -68,8 +68,8 @@ module _ {n : Node} {g : Message} (s : SoundMessage n g) where
 
 -- ---- frames
 
-forgotten-step : (h : Frame) → SoundFrame h → FrameStep h (marked 0 h)
-forgotten-step h s = record { head = refl; delivered = omega arith; room = s .room }
+forgotten-step : (h : Frame) → FrameStep h (undelivered h)
+forgotten-step h = record { head = refl; delivered = omega arith; room = refl }
 
 kept-step : (h : Frame) (d : List ℕ) → SoundFrame h → FrameStep h (kept h d)
 unfolding kept
@@ -123,5 +123,5 @@ module _ {n : Node} (s : Sound n) where
   pub close-kept : Sound (closeOf n)
   unfolding closeOf forget closeMessages
   close-kept =
-      sound-after s (some-frames s _ _ (λ f l t. forgotten-step (frameAt n f) (s .frames f l)))
+      sound-after s (some-frames s _ _ (λ f l t. forgotten-step (frameAt n f)))
       (some-messages s _ _ (λ m l t. closed-step (s .messages m l) m)) (fields-stay s)

@@ -32,7 +32,7 @@ use Rattle.store.specs.Node.{
   frameAt,
   messageAt,
   fieldAt,
-  marked,
+  undelivered,
   withFrames,
   withMessages,
   withFrame,
@@ -225,22 +225,22 @@ module _ (n : Node) where
   abbrev isFrame : ℕ → Frame → Bool
   isFrame f h = ltb f (frameCount n)
 
-  abbrev unmarked : ℕ → Frame → Frame
-  unmarked f h = marked 0 h
+  abbrev after-closing : ℕ → Frame → Frame
+  after-closing f h = undelivered h
 
   -- those of the first k frames are forgotten
   abbrev pub forgottenTo : ℕ → Node
-  forgottenTo k = withFrames n (changedTo isFrame unmarked (n .frames) k)
+  forgottenTo k = withFrames n (changedTo isFrame after-closing (n .frames) k)
 
   pub forget-turn : (k : ℕ) {now after : Node} → k < frameCount n → k < length (n .frames) → now ≡ forgottenTo k
-      → after ≡ withFrame now k (marked 0 (frameAt now k)) → after ≡ forgottenTo (k + 1)
+      → after ≡ withFrame now k (undelivered (frameAt now k)) → after ≡ forgottenTo (k + 1)
   forget-turn k known room so-far put =
       put
-      ∙ ap (λ (i : Node). withFrame i k (marked 0 (frameAt i k))) so-far
-      ∙ ap (λ (h : Frame). withFrame (forgottenTo k) k (marked 0 h)) (not-yet isFrame unmarked (n .frames) k noFrame room)
-      ∙ ap (withFrames n) (changed-turn isFrame unmarked (n .frames) k noFrame room (lt-ltb k (frameCount n) known))
+      ∙ ap (λ (i : Node). withFrame i k (undelivered (frameAt i k))) so-far
+      ∙ ap (λ (h : Frame). withFrame (forgottenTo k) k (undelivered h)) (not-yet isFrame after-closing (n .frames) k noFrame room)
+      ∙ ap (withFrames n) (changed-turn isFrame after-closing (n .frames) k noFrame room (lt-ltb k (frameCount n) known))
 
   pub forget-end : (k : ℕ) → frameCount n ≤ k → forgottenTo k ≡ forget n
   unfolding forget
   forget-end k over =
-      ap (withFrames n) (changed-end isFrame unmarked (n .frames) k (λ j h t. omega (arith, ltb-true j (frameCount n) t)))
+      ap (withFrames n) (changed-end isFrame after-closing (n .frames) k (λ j h t. omega (arith, ltb-true j (frameCount n) t)))

@@ -14,7 +14,7 @@ use Rattle.agreement.specs.declared.Agreed.{Agreed}
 use Rattle.agreement.specs.declared.Agreed.the-variants.{Value, NoResult}
 use Rattle.store.specs.declared.Message.{Message}
 use Rattle.store.specs.declared.Field.{Field}
-use Rattle.store.specs.Node.{Node, frameCount, messageCount, isSigned, isSent, isBig, isDelivered, dataOf, frameAt, marked, withFrames, withMessages}
+use Rattle.store.specs.Node.{Node, frameCount, messageCount, isSigned, isSent, isBig, isDelivered, dataOf, frameAt, undelivered, withFrames, withMessages}
 use Rattle.node.specs.declared.Owner.{Owner}
 use Rattle.node.specs.Own.{chosen, changed, own, fieldsOf}
 use Rattle.node.specs.Calls.{withState, passesNow, statusPlaces}
@@ -82,7 +82,7 @@ unfoldable pub closeMessages : Node → Node
 closeMessages n = withMessages n (changed (isReceived n) (closedMessage n) 0 (n .messages))
 
 unfoldable pub forget : Node → Node
-forget n = withFrames n (changed (λ f h. ltb f (frameCount n)) (λ f h. marked 0 h) 0 (n .frames))
+forget n = withFrames n (changed (λ f h. ltb f (frameCount n)) (λ f h. undelivered h) 0 (n .frames))
 
 unfoldable pub closeOf : Node → Node
 closeOf n = forget (closeMessages n)

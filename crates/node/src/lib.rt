@@ -698,7 +698,7 @@ fn forget_deliveries(node: &mut [u8])
 {
     let frames = store::counts(&node[..]).frames;
     for f in 0..frames {
-        store::put_delivered(&mut *node, f, 0);
+        store::forget_delivery(&mut *node, f);
     }
 }
 

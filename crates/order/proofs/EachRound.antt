@@ -16,7 +16,7 @@ use borrow.Author.Tests.{eqb-true, ltb-true}
 use Rattle.packing.proofs.Frame.{agree}
 use Rattle.store.specs.declared.Head.{Head}
 use Rattle.store.specs.declared.Field.{Field}
-use Rattle.store.specs.Node.{Frame, Node, frameCount, noFrame, noMessage, isDelivered}
+use Rattle.store.specs.Node.{Frame, Node, frameCount, noFrame, noMessage}
 use Rattle.store.specs.Node.{frameAt, messageAt, fieldAt, withFrame, withFrames}
 use Rattle.node.specs.Own.{own}
 use Rattle.node.specs.Calls.{sendAnswer, sendOf, invalidateAnswer, invalidateOf, suppressed, assembleAnswer, writes, written, assembleOf, assembled}
@@ -30,7 +30,7 @@ use Rattle.node.proofs.Lists.{same-test}
 use Rattle.order.specs.Runs.{Call, send, invalidate, assemble, consumed, readFlag, deliver, close, receive, Seen, seenOf, next, final}
 use Rattle.order.specs.Bare.{bareFrame, layoutOf}
 use Rattle.order.specs.Own.{SameInstance, SameOwn, SameFrame, SameRound, seens}
-use Rattle.order.proofs.Bare.{kept-layout, kept-sound, same-frame-number, same-frame}
+use Rattle.order.proofs.Bare.{frame-bare, kept-layout, kept-sound, same-frame-number, same-frame}
 use Rattle.order.proofs.OwnBits.{in-layout, message-alike}
 
 -- ---- a node with other frames of the same heads
@@ -235,8 +235,8 @@ module _ {n n′ : Node} (s : Sound n) (s′ : Sound n′) (same : SameRound n n
 
 -- ---- rounds
 
--- two sound nodes of the same round show every caller the same, and stay of the same round: no call looks at what earlier rounds left behind. So a
--- closing depends on the deliveries of its own round only
+-- two sound nodes of the same round show every caller the same, and stay of the same round: no call looks at what stands in frames that did not come. So
+-- a closing depends on the deliveries of its own round only
 pub each-round : {n n′ : Node} → Sound n → Sound n′ → SameRound n n′ → (c : Call) → (seenOf n c ≡ seenOf n′ c) × SameRound (next n c) (next n′ c)
 each-round s s′ same c = (seen-same s s′ same c, next-same s s′ same c)
 
@@ -248,9 +248,9 @@ each-run s s′ same (c ∷ l) =
     let (later, end) = each-run (kept-sound s c) (kept-sound s′ c) after l in
     (ap₂ _∷_ seen later, end)
 
--- a closing forgets the round's deliveries
-pub forgotten : {n : Node} → Sound n → (f : ℕ) → f < n .frame-number → isDelivered (frameAt (next n close) f .head) ≡ false
-forgotten s f l = rw (frame-closed s f l)
+-- a closing forgets the round's deliveries: each frame is then as the layout alone says
+pub forgotten : {n : Node} → Sound n → (f : ℕ) → f < n .frame-number → frameAt (next n close) f ≡ frameAt (layoutOf n) f
+forgotten {n} s f l = frame-closed s f l ∙ sym (frame-bare n f)
 
 -- so whatever was delivered to each before, two sound nodes of one layout that a closing leaves with the same messages and fields show every caller
 -- the same from then on

@@ -52,6 +52,7 @@ once =
       field-at = λ b d. one _;
       put-delivered = λ b f k. one-memory _;
       put-data = λ b f bytes. one-memory _;
+      forget-delivery = λ b f. one-memory _;
       put-message = λ b m g. one-memory _;
       put-field = λ b d x. one-memory _;
       start = λ file frames messages fields. one-memory _;

@@ -5,12 +5,12 @@ use lib.IntN.{pos}
 use Rattle.store.specs.declared.Stage.the-variants.{Gone}
 use Rattle.store.specs.declared.Message.{Message}
 use Rattle.store.specs.declared.Field.{Field}
-use Rattle.store.specs.Node.{Frame, Node, marked, emptied}
+use Rattle.store.specs.Node.{Frame, Node, undelivered}
 use Rattle.node.specs.Calls.{withState, staged}
 
 -- a frame not delivered, without data
 abbrev pub bareFrame : Frame → Frame
-bareFrame h = emptied (marked 0 h .head)
+bareFrame h = undelivered h
 
 -- a message without validity, status and values
 abbrev pub bareMessage : Message → Message

@@ -6,13 +6,14 @@ use mathlib.Core.List.{List, [], _∷_}
 use mathlib.Core.Logic.{_↔_}
 use Prim.Native.Nat.{ℕ, _<_}
 use lib.IntN.{ℤ}
-use Rattle.store.specs.Node.{Node, nodeOf, isDelivered, frameAt, messageAt}
+use Rattle.store.specs.Node.{Node, nodeOf, frameAt, messageAt}
 use Rattle.node.specs.Calls.{left, passesNow, assembled}
 use Rattle.node.specs.Closing.{noneCame}
 use Rattle.node.specs.Load.{loadOf}
 use Rattle.node.specs.Sound.{Sound}
 use Rattle.order.specs.Runs.{Call, send, assemble, readFlag, deliver, close, receive}
 use Rattle.order.specs.Runs.{value, Seen, answerOf, lentBefore, seenOf, next, final, Memory, Does}
+use Rattle.order.specs.Bare.{layoutOf}
 use Rattle.order.specs.Order.{carries, Numbered, Result, Reordered, Ran, SameOutcome}
 use Rattle.order.specs.Once.{Once}
 use Rattle.order.specs.Own.{SameValues, SameOwn, SameRound}
@@ -32,10 +33,10 @@ pub record Claims : Type 0 where
       → seenOf (next n close) (receive m p) ≡ seenOf (next n′ close) (receive m p)
   pub own-values : (n n′ : Node) → Sound n → Sound n′ → (m : ℕ) → SameOwn n n′ m
       → SameValues (messageAt (next n close) m) (messageAt (next n′ close) m)
-  -- Each round by itself. Whatever bytes earlier rounds left in frames that did not come in this one, every call shows the same and leaves the same
-  -- round; and a closing leaves no frame delivered
+  -- Each round by itself. Whatever bytes stand in frames that did not come in this round, every call shows the same and leaves the same round; and a
+  -- closing leaves nothing of the deliveries, so that each frame is as the layout alone says
   pub each-round : (n n′ : Node) → Sound n → Sound n′ → SameRound n n′ → (c : Call) → (seenOf n c ≡ seenOf n′ c) × SameRound (next n c) (next n′ c)
-  pub forgotten : (n : Node) → Sound n → (f : ℕ) → f < n .frame-number → isDelivered (frameAt (next n close) f .head) ≡ false
+  pub forgotten : (n : Node) → Sound n → (f : ℕ) → f < n .frame-number → frameAt (next n close) f ≡ frameAt (layoutOf n) f
   -- The flag's history. After the latest send of a message that answered 0, filtered or not, its flag is set exactly if each frame that carries it has
   -- been assembled with answer 0 and later consumed since that send, and cleared exactly if not; l is any list of calls
   pub flag-history : (n : Node) → Sound n → (m : ℕ) (v : ℤ) → answerOf n (send m v) ≡ 0

@@ -23,7 +23,7 @@ use Rattle.listing.specs.Text.{listing}
 use Rattle.store.specs.declared.Head.{Head}
 use Rattle.store.specs.declared.Message.{Message}
 use Rattle.store.specs.declared.Field.{Field}
-use Rattle.store.specs.Node.{nodeOf, countsOf, frameAt, messageAt, fieldAt, dataOf, marked, filled, withFrame, withMessage, withField}
+use Rattle.store.specs.Node.{nodeOf, countsOf, frameAt, messageAt, fieldAt, dataOf, marked, filled, undelivered, withFrame, withMessage, withField}
 use Rattle.store.specs.Start.{startOf}
 use Rattle.node.specs.Calls.{left}
 use Rattle.node.specs.Load.{loadOf}
@@ -71,6 +71,7 @@ pub record Once : Type 0 where
       → Single (λ (e : List ℕ). Memory e × (nodeOf e ≡ withFrame (nodeOf b) f (marked k (frameAt (nodeOf b) f))))
   pub put-data : (b : List ℕ) (f : ℕ) (bytes : List ℕ)
       → Single (λ (e : List ℕ). Memory e × (nodeOf e ≡ withFrame (nodeOf b) f (filled (frameAt (nodeOf b) f) bytes)))
+  pub forget-delivery : (b : List ℕ) (f : ℕ) → Single (λ (e : List ℕ). Memory e × (nodeOf e ≡ withFrame (nodeOf b) f (undelivered (frameAt (nodeOf b) f))))
   pub put-message : (b : List ℕ) (m : ℕ) (g : Message) → Single (λ (e : List ℕ). Memory e × (nodeOf e ≡ withMessage (nodeOf b) m g))
   pub put-field : (b : List ℕ) (d : ℕ) (x : Field) → Single (λ (e : List ℕ). Memory e × (nodeOf e ≡ withField (nodeOf b) d x))
   pub start : (file : List ℕ) (frames messages fields : ℕ)

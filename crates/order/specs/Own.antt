@@ -37,7 +37,7 @@ pub record SameOwn (n n′ : Node) (m : ℕ) : Type 0 where
 
 -- ---- each round by itself
 
--- the two frames differ at most in what an earlier round left behind: the bytes, where this round delivered none
+-- the two frames differ at most in the bytes that stand there where this round delivered none
 pub record SameFrame (h h′ : Frame) : Type 0 where
   pub head : h .head ≡ h′ .head
   pub delivered : isDelivered (h .head) ≡ true → dataOf h ≡ dataOf h′

@@ -240,6 +240,10 @@ filled h d = record { head = h .head; bytes = paste (h .bytes) 0 d (length d) }
 abbrev pub emptied : Head → Frame
 emptied h = record { head = h; bytes = replicate 32 0 }
 
+-- a frame whose delivery is forgotten: not delivered, and nothing of the data left
+abbrev pub undelivered : Frame → Frame
+undelivered h = emptied (marked 0 h .head)
+
 -- the node with other counts, with other lists, and with one cell replaced
 abbrev pub withNumbers : Node → ℕ → ℕ → ℕ → Node
 withNumbers n frames messages fields =

@@ -26,6 +26,7 @@ ghost use Rattle.store.specs.Node.{
   marked,
   filled,
   emptied,
+  undelivered,
   withNumbers,
   withFrames,
   withMessages,
@@ -308,26 +309,6 @@ pub fn put_data(node: &mut [u8], f: usize, bytes: &[u8])
     copy(&mut node[at..end], bytes);
 }
 
-pub fn put_message(node: &mut [u8], m: usize, g: Message)
-    requires { ⌜ (m < 32) × (Stored g) × (length (now node) ≡ nodeSize) ⌝ }
-    ensures { λ _. ⌜ nodeOf (now (node .exit)) ≡ withMessage (nodeOf (now (node .entry))) m g ⌝ }
-{
-    let at = 1187 + m * 26;
-    let end = at + 26;
-    write_message(&mut node[at..end], g);
-}
-
-pub fn put_field(node: &mut [u8], d: usize, x: Field)
-    requires { ⌜ (d < 128) × (StoredStage (x .stage)) × (length (now node) ≡ nodeSize) ⌝ }
-    ensures { λ _. ⌜ nodeOf (now (node .exit)) ≡ withField (nodeOf (now (node .entry))) d x ⌝ }
-{
-    let at = 2019 + d * 6;
-    let end = at + 6;
-    write_field(&mut node[at..end], x);
-}
-
-// ---- the start
-
 // A frame's cell with nothing delivered.
 fn put_frame(node: &mut [u8], f: usize, h: Head)
     requires { ⌜ (f < 32) × (length (now node) ≡ nodeSize) ⌝ }
@@ -349,6 +330,36 @@ fn write_frame(c: &mut [u8], h: Head)
     c[4] = h.delivered;
     copy(&mut c[5..37], &[0u8; 32]);
 }
+
+// Its data go too, so that of two nodes one cannot tell what an earlier round brought.
+pub fn forget_delivery(node: &mut [u8], f: usize)
+    requires { ⌜ (f < 32) × (length (now node) ≡ nodeSize) ⌝ }
+    ensures { λ _. ⌜ nodeOf (now (node .exit)) ≡ withFrame (nodeOf (now (node .entry))) f (undelivered (frameAt (nodeOf (now (node .entry))) f)) ⌝ }
+{
+    let mut h = head_at(&node[..], f);
+    h.delivered = 0;
+    put_frame(node, f, h);
+}
+
+pub fn put_message(node: &mut [u8], m: usize, g: Message)
+    requires { ⌜ (m < 32) × (Stored g) × (length (now node) ≡ nodeSize) ⌝ }
+    ensures { λ _. ⌜ nodeOf (now (node .exit)) ≡ withMessage (nodeOf (now (node .entry))) m g ⌝ }
+{
+    let at = 1187 + m * 26;
+    let end = at + 26;
+    write_message(&mut node[at..end], g);
+}
+
+pub fn put_field(node: &mut [u8], d: usize, x: Field)
+    requires { ⌜ (d < 128) × (StoredStage (x .stage)) × (length (now node) ≡ nodeSize) ⌝ }
+    ensures { λ _. ⌜ nodeOf (now (node .exit)) ≡ withField (nodeOf (now (node .entry))) d x ⌝ }
+{
+    let at = 2019 + d * 6;
+    let end = at + 6;
+    write_field(&mut node[at..end], x);
+}
+
+// ---- the start
 
 // Frame f of the layout, or of none.
 fn start_head(file: &[u8], frames: usize, f: usize) -> Head

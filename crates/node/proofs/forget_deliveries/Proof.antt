@@ -26,8 +26,8 @@ loop-holds c =
     let start = c .before .before .before in
     (ap (λ (r : Counts). r .frames) (c .counts .ensures), start .pre, refl)
 
-put-delivered-requires : tie.Need-put-delivered-requires Inv-loop μ-loop
-put-delivered-requires c κs = search needs
+forget-delivery-requires : tie.Need-forget-delivery-requires Inv-loop μ-loop
+forget-delivery-requires c κs = search needs
 
 add-f : tie.Need-add-f Inv-loop μ-loop
 add-f c = search needs
@@ -42,7 +42,7 @@ loop-again c =
     let b = loop .before .before .before .before .args .node .now in (
       loop .loop .inv .0,
       search needs,
-      forget-turn (nodeOf b) (loop .loop .f) (omega arith) (omega (arith, frames-length b)) (loop .loop .inv .2) (put .put-delivered .ensures),
+      forget-turn (nodeOf b) (loop .loop .f) (omega arith) (omega (arith, frames-length b)) (loop .loop .inv .2) (put .forget-delivery .ensures),
     )
 
 same-length : tie.Need-same-length Inv-loop μ-loop
@@ -62,7 +62,7 @@ forget-deliveries-spec =
     μ-loop
     counts-requires
     loop-holds
-    put-delivered-requires
+    forget-delivery-requires
     add-f
     loop-less
     loop-again

@@ -18,11 +18,12 @@ use Rattle.agreement.specs.declared.Agreed.{Agreed}
 use Rattle.agreement.specs.declared.Agreed.the-variants.{Value, NoResult}
 use Rattle.store.specs.declared.Message.{Message}
 use Rattle.store.specs.Node.{Frame, Node, isSigned, frameAt, undelivered}
+use Rattle.message.specs.declared.Change.{Change}
+use Rattle.message.specs.Messages.{passesNow, offered, invalidated, withStatus, filtered, agreedOn, settled}
 use Rattle.node.specs.declared.Owner.{Owner}
-use Rattle.node.specs.declared.Change.{Change}
-use Rattle.node.specs.Calls.{outcome, passesNow, sendAnswer, offered, sendOf, invalidateAnswer, invalidated, invalidateOf}
+use Rattle.node.specs.Calls.{outcome, sendAnswer, sendOf, invalidateAnswer, invalidateOf}
 use Rattle.node.specs.Calls.{assembleAnswer, assembleOf, consumedAnswer, consumedOf, deliverAnswer, kept, deliverOf}
-use Rattle.node.specs.Closing.{instances, noneCame, withStatus, filtered, agreedOn, settled, closedMessage, closeMessages, forget, closeOf}
+use Rattle.node.specs.Closing.{instances, noneCame, closedMessage, closeMessages, forget, closeOf}
 use Rattle.node.specs.Sound.{IsStatus, SoundFrame, SoundMessage, Sound}
 use Rattle.node.proofs.Lists.{by-test}
 use Rattle.node.proofs.Answers.{send-tests, invalidate-tests, deliver-tests}

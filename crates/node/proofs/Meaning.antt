@@ -17,9 +17,10 @@ use Rattle.packing.proofs.Places.{placesIn-places, placesIn-inside, placesIn-di
 use Rattle.packing.proofs.Field.{there-and-back}
 use Rattle.store.specs.declared.Field.{Field}
 use Rattle.store.specs.Node.{Node, messageCount, isSigned, isSent, isValid, isBig, frameAt, messageAt, fieldAt, noField}
+use Rattle.message.specs.Fields.{statusPlaces, writes}
 use Rattle.node.specs.declared.Owner.{Owner}
 use Rattle.node.specs.Own.{chosen, own, fieldsOf}
-use Rattle.node.specs.Calls.{assembleAnswer, statusPlaces, writes, written, assembled, receiveAnswer}
+use Rattle.node.specs.Calls.{assembleAnswer, written, assembled, receiveAnswer}
 use Rattle.node.specs.Sound.{IsStatus, messagePlaces, itsStatusPlaces, SoundField, Apart, Sound}
 use Rattle.node.proofs.Lists.{by-test, Every, chosen-each, chosen-split}
 use Rattle.node.proofs.Owners.{fields-named}

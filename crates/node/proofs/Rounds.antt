@@ -38,25 +38,10 @@ use Rattle.store.specs.Node.{
   withFrame,
   withMessage,
 }
+use Rattle.message.specs.Messages.{passesNow, withStatus, filtered, agreedOn, settled}
 use Rattle.node.specs.declared.Owner.{Owner}
 use Rattle.node.specs.Own.{chosen, firstCell, endCell, belongs, own}
-use Rattle.node.specs.Calls.{passesNow}
-use Rattle.node.specs.Closing.{
-  came,
-  statusSet,
-  counts,
-  valueIn,
-  instances,
-  noneCame,
-  withStatus,
-  filtered,
-  agreedOn,
-  settled,
-  closedMessage,
-  isReceived,
-  closeMessages,
-  forget,
-}
+use Rattle.node.specs.Closing.{came, statusSet, counts, valueIn, instances, noneCame, closedMessage, isReceived, closeMessages, forget}
 use Rattle.node.proofs.Lists.{by-test}
 use Rattle.node.proofs.Owners.{own-parts, own-within}
 use Rattle.node.proofs.Instances.{agreed-in-memory}

@@ -13,9 +13,10 @@ use Rattle.whole.specs.Whole.{allOf}
 use Rattle.layout.specs.WellLaid.{WellLaid}
 use Rattle.store.specs.Node.{Node, messageCount, isSent, isValid, hasStatusBit, noField, messageAt}
 use Rattle.store.specs.Start.{startField, startStatusBit, initialValue, startMessage, startFields, startOf}
+use Rattle.message.specs.Fields.{goneField}
 use Rattle.node.specs.declared.Owner.{Owner}
 use Rattle.node.specs.Own.{own}
-use Rattle.node.specs.Calls.{flagAnswer, goneField, flagOf, flagPlace, receiveAnswer}
+use Rattle.node.specs.Calls.{flagAnswer, flagOf, flagPlace, receiveAnswer}
 use Rattle.node.specs.Load.{loadOf}
 use Rattle.node.proofs.Starts.{message-at, load-makes}
 use Rattle.node.proofs.Tables.{table-all, choice-passes, chosen-all}

@@ -43,7 +43,7 @@ use Rattle.store.specs.Start.{
   startFields,
   startOf,
 }
-use Rattle.node.specs.Calls.{statusPlaces}
+use Rattle.message.specs.Fields.{statusPlaces}
 use Rattle.node.specs.Load.{loaded, loadOf}
 use Rattle.node.specs.Sound.{SoundFrame, SoundMessage, SoundField, Apart, Sound, messagePlaces, itsStatusPlaces}
 use Rattle.node.proofs.Stretches.{tally-from, Stretch, stretch}

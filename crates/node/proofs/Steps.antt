@@ -16,10 +16,11 @@ use Rattle.store.specs.declared.Message.{Message}
 use Rattle.store.specs.declared.Field.{Field}
 use Rattle.store.specs.Node.{Frame, Node, isSigned, noFrame, noMessage, noField, frameAt, messageAt, fieldAt}
 use Rattle.store.specs.Node.{marked, withFrames, withMessages, withFields}
-use Rattle.node.specs.declared.Change.{Change}
+use Rattle.message.specs.declared.Change.{Change}
+use Rattle.message.specs.Messages.{withState}
+use Rattle.message.specs.Fields.{staged, stageAfter, statusPlaces}
 use Rattle.node.specs.declared.Owner.{Owner}
 use Rattle.node.specs.Own.{changed, own}
-use Rattle.node.specs.Calls.{withState, staged, stageAfter, statusPlaces}
 use Rattle.node.specs.Sound.{SoundFrame, SoundMessage, SoundField, Apart, Sound, IsStatus, IsStage, messagePlaces, itsStatusPlaces}
 use Rattle.node.proofs.Lists.{Step, one-replaced, some-replaced}
 

@@ -7,17 +7,14 @@ use lib.Dec.{eqb, ltb}
 use lib.IntN.{ℤ}
 use lib.ListN.{length, take}
 use Rattle.whole.specs.Whole.{allOf}
-use Rattle.packing.specs.Places.{placesIn, packed}
-use Rattle.packing.specs.Values.{inRange, patternOf}
-use Rattle.filter.specs.Filter.{passes}
-use Rattle.store.specs.declared.Stage.{Stage}
-use Rattle.store.specs.declared.Stage.the-variants.{Waiting, Loaded, Gone}
+use Rattle.packing.specs.Values.{inRange}
 use Rattle.store.specs.declared.Head.{Head}
-use Rattle.store.specs.declared.Message.{Message}
 use Rattle.store.specs.declared.Field.{Field}
-use Rattle.store.specs.Node.{Frame, Node, frameCount, messageCount, isSigned, isSent, isValid, hasStatusBit, isBig, isSentFrame, isEvent, nodeOf, frameAt, messageAt, marked, filled, withFields, withMessage, withFrame}
+use Rattle.store.specs.Node.{Frame, Node, frameCount, messageCount, isSigned, isSent, isValid, hasStatusBit, isSentFrame, isEvent, nodeOf, frameAt, messageAt, marked, filled, withFields, withMessage, withFrame}
+use Rattle.message.specs.declared.Change.{Change}
+use Rattle.message.specs.Messages.{offered, invalidated}
+use Rattle.message.specs.Fields.{staged, stageAfter, goneField, writes}
 use Rattle.node.specs.declared.Owner.{Owner}
-use Rattle.node.specs.declared.Change.{Change}
 use Rattle.node.specs.Own.{changed, own, fieldsOf}
 
 -- ---- outcomes
@@ -35,42 +32,6 @@ left a b = record { answer = a; node = nodeOf b }
 abbrev pub outcome : ℕ → Node → Node → Outcome
 outcome a after before = record { answer = a; node = cond (eqb a 0) after before }
 
--- a message with another validity, status, held and old value
-abbrev pub withState : Message → ℕ → ℕ → ℤ → ℤ → Message
-withState g valid status held old =
-    record {
-      width = g .width;
-      sign = g .sign;
-      direction = g .direction;
-      agreement = g .agreement;
-      filter = g .filter;
-      statusbit = g .statusbit;
-      valid = valid;
-      status = status;
-      first = g .first;
-      fields = g .fields;
-      x1 = g .x1;
-      x2 = g .x2;
-      held = held;
-      old = old;
-    }
-
--- a field at another stage
-abbrev pub staged : Stage → Field → Field
-staged s x = record { message = x .message; frame = x .frame; start = x .start; status = x .status; place = x .place; stage = s }
-
--- a sending makes a field waiting at whatever stage it is; an assembly makes a waiting one loaded; consuming makes a loaded one gone
-abbrev pub stageAfter : Change → Stage → Stage
-stageAfter Change.Send Waiting = Waiting
-stageAfter Change.Send Loaded = Waiting
-stageAfter Change.Send (Gone k) = Waiting
-stageAfter Change.Load Waiting = Loaded
-stageAfter Change.Load Loaded = Loaded
-stageAfter Change.Load (Gone k) = Gone k
-stageAfter Change.Consume Waiting = Waiting
-stageAfter Change.Consume Loaded = Gone 2
-stageAfter Change.Consume (Gone k) = Gone k
-
 -- ---- send
 
 unfoldable pub sendAnswer : Node → ℕ → ℤ → ℕ
@@ -78,14 +39,6 @@ sendAnswer n m v =
     cond (not (ltb m (messageCount n))) 16
     (cond (not (isSent (messageAt n m))) 17
     (cond (not (inRange (isSigned (messageAt n m)) (messageAt n m .width) v)) 18 0))
-
--- the message's filter passes the value
-unfoldable pub passesNow : Message → ℤ → Bool
-passesNow g v = passes (g .filter) (isSigned g) (g .x1) (g .x2) v (g .old)
-
--- if it passes it is held and the message is valid; if not, the held value stays and the message is invalid; either way it is the next old value
-unfoldable pub offered : Message → ℤ → Message
-offered g v = cond (passesNow g v) (withState g 1 (g .status) v v) (withState g 0 (g .status) (g .held) v)
 
 -- the fields of a message or a frame move on by a change
 abbrev pub moved : Change → Owner → Node → Node
@@ -99,9 +52,6 @@ sendOf n m v = outcome (sendAnswer n m v) (withMessage (moved Change.Send (Owner
 unfoldable pub invalidateAnswer : Node → ℕ → ℕ
 invalidateAnswer n m =
     cond (not (ltb m (messageCount n))) 16 (cond (not (isSent (messageAt n m))) 17 (cond (not (hasStatusBit (messageAt n m))) 19 0))
-
-abbrev pub invalidated : Message → Message
-invalidated g = withState g 0 (g .status) (g .held) (g .old)
 
 unfoldable pub invalidateOf : Node → ℕ → Outcome
 invalidateOf n m = outcome (invalidateAnswer n m) (withMessage n m (invalidated (messageAt n m))) n
@@ -125,15 +75,6 @@ assembleAnswer n f size =
     cond (not (ltb f (frameCount n))) 16
     (cond (not (isSentFrame (frameAt n f .head))) 17
     (cond (not (eqb size (frameAt n f .head .length))) 18 (cond (suppressed n f) 23 0)))
-
--- a field's status bit in a frame of that many bytes: no place where it has none
-unfoldable pub statusPlaces : ℕ → Head → Field → List ℕ
-statusPlaces size h x = cond (eqb (x .status) 1) (placesIn size (isBig h) (x .place) 1) []
-
--- a field of message g writes the held value and, if present, its status bit
-unfoldable pub writes : Head → Message → Field → List ℕ → List ℕ
-writes h g x b =
-    packed (statusPlaces (length b) h x) (cond (isValid g) 1 0) (packed (placesIn (length b) (isBig h) (x .start) (g .width)) (patternOf 32 (g .held)) b)
 
 -- each field in turn
 unfoldable pub written : Node → Head → List Field → List ℕ → List ℕ
@@ -160,14 +101,6 @@ consumedOf n f = outcome (consumedAnswer n f) (moved Change.Consume (Owner.Frame
 -- a received message answers 16 too
 unfoldable pub flagAnswer : Node → ℕ → ℕ
 flagAnswer n m = cond (not (ltb m (messageCount n))) 16 (cond (not (isSent (messageAt n m))) 16 0)
-
-abbrev pub isGone : Stage → Bool
-isGone Waiting = false
-isGone Loaded = false
-isGone (Gone k) = true
-
-abbrev pub goneField : Field → Bool
-goneField x = isGone (x .stage)
 
 -- set (1) exactly if all the message's fields are gone, else cleared (0)
 unfoldable pub flagOf : Node → ℕ → ℕ

@@ -1,7 +1,7 @@
 -- What a closing means: each received message by itself, from the node as it was when the closing began; then the round's deliveries are forgotten.
 -- Assumes nothing.
 use mathlib.Core.Bool.{Bool, true, not, cond, _&&_}
-use mathlib.Core.List.{List, [], _∷_, map}
+use mathlib.Core.List.{List, map}
 use Prim.Native.Nat.{ℕ}
 use lib.Dec.{eqb, ltb}
 use lib.IntN.{ℤ}
@@ -9,15 +9,13 @@ use lib.ListN.{length}
 use Rattle.whole.specs.Whole.{allOf}
 use Rattle.packing.specs.Places.{placesIn, unpacked}
 use Rattle.packing.specs.Values.{valueOf}
-use Rattle.agreement.specs.Agreement.{agreed}
-use Rattle.agreement.specs.declared.Agreed.{Agreed}
-use Rattle.agreement.specs.declared.Agreed.the-variants.{Value, NoResult}
 use Rattle.store.specs.declared.Message.{Message}
 use Rattle.store.specs.declared.Field.{Field}
 use Rattle.store.specs.Node.{Node, frameCount, messageCount, isSigned, isSent, isBig, isDelivered, dataOf, frameAt, undelivered, withFrames, withMessages}
+use Rattle.message.specs.Messages.{settled}
+use Rattle.message.specs.Fields.{statusPlaces}
 use Rattle.node.specs.declared.Owner.{Owner}
 use Rattle.node.specs.Own.{chosen, changed, own, fieldsOf}
-use Rattle.node.specs.Calls.{withState, passesNow, statusPlaces}
 
 -- ---- a field this round
 
@@ -51,23 +49,6 @@ instances n m g = map (valueIn n g) (chosen (λ d x. own n (Owner.Message m) d x
 -- no frame of it was delivered
 unfoldable pub noneCame : Node → ℕ → Bool
 noneCame n m = allOf (λ x. not (came n x)) (fieldsOf n (Owner.Message m))
-
-abbrev pub withStatus : Message → ℕ → Message
-withStatus g s = withState g (g .valid) s (g .held) (g .old)
-
--- an agreed value is put to the filter: 0 and it is held, or 21; either way it is the next old value
-unfoldable pub filtered : Message → ℤ → Message
-filtered g v = cond (passesNow g v) (withState g (g .valid) 0 v v) (withState g (g .valid) 21 (g .held) v)
-
--- agreement without result is 20
-abbrev pub agreedOn : Message → Agreed → Message
-agreedOn g NoResult = withStatus g 20
-agreedOn g (Value v) = filtered g v
-
--- no frame of it delivered, 21; some delivered but no instance counts, 22; else what the instances agree on
-abbrev pub settled : Message → Bool → List ℤ → Message
-settled g none [] = withStatus g (cond none 21 22)
-settled g none (v ∷ l) = agreedOn g (agreed (g .agreement) (v ∷ l))
 
 unfoldable pub closedMessage : Node → ℕ → Message → Message
 closedMessage n m g = settled g (noneCame n m) (instances n m g)

@@ -13,7 +13,7 @@ use Rattle.store.specs.declared.Stage.the-variants.{Waiting, Loaded, Gone}
 use Rattle.store.specs.declared.Message.{Message}
 use Rattle.store.specs.declared.Field.{Field}
 use Rattle.store.specs.Node.{Frame, Node, isSigned, isSent, isBig, frameAt, messageAt, fieldAt}
-use Rattle.node.specs.Calls.{statusPlaces}
+use Rattle.message.specs.Fields.{statusPlaces}
 
 -- a frame is as its layout says, and has 32 bytes of memory
 pub record SoundFrame (h : Frame) : Type 0 where

@@ -4,16 +4,13 @@ ghost use Prim.Native.Nat.{_<_, _≤_, min};
 ghost use lib.ListN.{length, take};
 ghost use Rattle.whole.specs.Whole.{allOf};
 ghost use Rattle.store.specs.Node.{nodeSize, nodeOf, isValid, messageAt};
+ghost use Rattle.message.specs.Fields.{goneField};
 ghost use Rattle.node.specs.Own.{cellsOf, InMemory, names, belongs, fieldsOf};
 ghost use Rattle.node.specs.Calls.{
   left,
   outcome,
-  stageAfter,
-  staged,
   moved,
   sendAnswer,
-  passesNow,
-  offered,
   sendOf,
   invalidateAnswer,
   invalidateOf,
@@ -21,14 +18,11 @@ ghost use Rattle.node.specs.Calls.{
   invalidIn,
   suppressed,
   assembleAnswer,
-  writes,
   written,
   assembleOf,
   assembled,
   consumedAnswer,
   consumedOf,
-  isGone,
-  goneField,
   flagAnswer,
   flagPlace,
   deliverAnswer,
@@ -36,41 +30,19 @@ ghost use Rattle.node.specs.Calls.{
   receiveAnswer,
   receivedPlace,
 };
-ghost use Rattle.node.specs.Closing.{
-  came,
-  statusSet,
-  counts,
-  valueIn,
-  instances,
-  noneCame,
-  withStatus,
-  filtered,
-  agreedOn,
-  closedMessage,
-  closeMessages,
-  forget,
-  closeOf,
-};
+ghost use Rattle.node.specs.Closing.{came, statusSet, counts, valueIn, instances, noneCame, closedMessage, closeMessages, forget, closeOf};
 ghost use Rattle.node.specs.Load.{loadOf};
-use agreement::Agreed;
 use layout::Counts;
 use layout::Verdict;
+use message::Change;
 use store::Field;
 use store::Head;
 use store::Message;
-use store::Stage;
 
 // Whose fields: a message's or a frame's.
 pub enum Owner {
     Message(u8),
     Frame(u8),
-}
-
-// What happens to a field's stage.
-pub enum Change {
-    Send,
-    Load,
-    Consume,
 }
 
 // The cells where an owner's fields are: from .. end.
@@ -123,44 +95,6 @@ fn does_belong(c: Counts, owner: Owner, x: Field) -> bool
     ((x.message as usize) < c.messages) & (((x.frame as usize) < c.frames) & is_named(owner, x))
 }
 
-// ---- stages
-
-fn stage_after(change: Change, stage: Stage) -> Stage
-    ensures { λ r. ⌜ r ≡ stageAfter change stage ⌝ }
-{
-    match change {
-        Change::Send => match stage {
-            Stage::Waiting => Stage::Waiting,
-            Stage::Loaded => Stage::Waiting,
-            Stage::Gone(_) => Stage::Waiting,
-        },
-        Change::Load => match stage {
-            Stage::Waiting => Stage::Loaded,
-            Stage::Loaded => Stage::Loaded,
-            Stage::Gone(k) => Stage::Gone(k),
-        },
-        Change::Consume => match stage {
-            Stage::Waiting => Stage::Waiting,
-            Stage::Loaded => Stage::Gone(2),
-            Stage::Gone(k) => Stage::Gone(k),
-        },
-    }
-}
-
-fn moved_field(change: Change, x: Field) -> Field
-    ensures { λ r. ⌜ r ≡ staged (stageAfter change (x .stage)) x ⌝ }
-{
-    let stage = x.stage;
-    Field {
-        message: x.message,
-        frame: x.frame,
-        start: x.start,
-        status: x.status,
-        place: x.place,
-        stage: stage_after(change, stage),
-    }
-}
-
 // An owner's fields move on; the other cells stay.
 fn move_fields(node: &mut [u8], owner: Owner, change: Change)
     requires { ⌜ (InMemory owner) × (length (now node) ≡ nodeSize) ⌝ }
@@ -173,7 +107,7 @@ fn move_fields(node: &mut [u8], owner: Owner, change: Change)
     for d in from..end {
         let x = store::field_at(&node[..], d);
         if does_belong(c, owner, x) {
-            store::put_field(&mut *node, d, moved_field(change, x));
+            store::put_field(&mut *node, d, message::moved_field(change, x));
         }
     }
 }
@@ -197,27 +131,6 @@ fn send_answer(node: &[u8], message: u64, value: i64) -> u8
     0
 }
 
-fn is_passed(g: Message, value: i64) -> bool
-    ensures { λ r. ⌜ r ≡ passesNow g value ⌝ }
-{
-    filter::passes(g.filter, g.sign == 1, g.x1, g.x2, value, g.old)
-}
-
-// The message after a value was put to its filter.
-fn offered_message(g: Message, value: i64) -> Message
-    ensures { λ r. ⌜ r ≡ offered g value ⌝ }
-{
-    let mut h = g;
-    h.old = value;
-    if is_passed(g, value) {
-        h.valid = 1;
-        h.held = value;
-        return h;
-    }
-    h.valid = 0;
-    h
-}
-
 pub fn send(node: &mut [u8], message: u64, value: i64) -> u8
     requires { ⌜ length (now node) ≡ nodeSize ⌝ }
     ensures { λ r. ⌜ left r (now (node .exit)) ≡ sendOf (nodeOf (now (node .entry))) message value ⌝ }
@@ -229,7 +142,7 @@ pub fn send(node: &mut [u8], message: u64, value: i64) -> u8
     let m = message as usize;
     let g = store::message_at(&node[..], m);
     move_fields(&mut *node, Owner::Message(message as u8), Change::Send);
-    store::put_message(node, m, offered_message(g, value));
+    store::put_message(node, m, message::offered_message(g, value));
     0
 }
 
@@ -261,9 +174,8 @@ pub fn invalidate(node: &mut [u8], message: u64) -> u8
         return answer;
     }
     let m = message as usize;
-    let mut g = store::message_at(&node[..], m);
-    g.valid = 0;
-    store::put_message(node, m, g);
+    let g = store::message_at(&node[..], m);
+    store::put_message(node, m, message::invalidated_message(g));
     0
 }
 
@@ -342,23 +254,6 @@ fn assemble_answer(node: &[u8], frame: u64, size: usize) -> u8
     0
 }
 
-// A field's value and, if present, its status bit.
-fn write_field(buffer: &mut [u8], h: Head, g: Message, x: Field)
-    ensures { λ _. ⌜ now (buffer .exit) ≡ writes h g x (now (buffer .entry)) ⌝ }
-{
-    let big = h.order == 1;
-    packing::pack(
-        &mut *buffer,
-        big,
-        x.start,
-        g.width,
-        packing::pattern_of(g.held),
-    );
-    if x.status == 1 {
-        packing::pack(buffer, big, x.place, 1, !(g.valid == 0) as u32);
-    }
-}
-
 fn write_fields(node: &[u8], frame: u8, h: Head, buffer: &mut [u8])
     requires { ⌜ (frame < 32) × (length (now node) ≡ nodeSize) ⌝ }
     ensures { λ _. ⌜ now (buffer .exit) ≡ written (nodeOf (now (node .entry))) h (fieldsOf (nodeOf (now (node .entry))) (Owner.Frame frame)) (now (buffer .entry)) ⌝ }
@@ -368,7 +263,7 @@ fn write_fields(node: &[u8], frame: u8, h: Head, buffer: &mut [u8])
     for d in 0..c.fields {
         let x = store::field_at(node, d);
         if does_belong(c, owner, x) {
-            write_field(
+            message::write_field(
                 &mut *buffer,
                 h,
                 store::message_at(node, x.message as usize),
@@ -423,16 +318,6 @@ pub fn consumed(node: &mut [u8], frame: u64) -> u8
 
 // ---- read flag
 
-fn stage_gone(stage: Stage) -> bool
-    ensures { λ r. ⌜ r ≡ isGone stage ⌝ }
-{
-    match stage {
-        Stage::Waiting => false,
-        Stage::Loaded => false,
-        Stage::Gone(_) => true,
-    }
-}
-
 fn all_gone(node: &[u8], message: u8) -> bool
     requires { ⌜ (message < 32) × (length (now node) ≡ nodeSize) ⌝ }
     ensures { λ r. ⌜ r ≡ allOf goneField (fieldsOf (nodeOf (now (node .entry))) (Owner.Message message)) ⌝ }
@@ -446,7 +331,7 @@ fn all_gone(node: &[u8], message: u8) -> bool
         let x = store::field_at(node, d);
         if does_belong(c, owner, x) {
             let stage = x.stage;
-            if !stage_gone(stage) {
+            if !message::stage_gone(stage) {
                 return false;
             }
         }
@@ -631,38 +516,6 @@ fn did_none_come(node: &[u8], message: u8) -> bool
     true
 }
 
-fn with_status(g: Message, status: u8) -> Message
-    ensures { λ r. ⌜ r ≡ withStatus g status ⌝ }
-{
-    let mut h = g;
-    h.status = status;
-    h
-}
-
-// The message after an agreed value was put to its filter.
-fn filtered_message(g: Message, agreed: i64) -> Message
-    ensures { λ r. ⌜ r ≡ filtered g agreed ⌝ }
-{
-    let mut h = g;
-    h.old = agreed;
-    if is_passed(g, agreed) {
-        h.status = 0;
-        h.held = agreed;
-        return h;
-    }
-    h.status = 21;
-    h
-}
-
-fn agreed_message(g: Message, agreed: Agreed) -> Message
-    ensures { λ r. ⌜ r ≡ agreedOn g agreed ⌝ }
-{
-    match agreed {
-        Agreed::NoResult => with_status(g, 20),
-        Agreed::Value(v) => filtered_message(g, v),
-    }
-}
-
 fn closed_message(node: &[u8], message: u8, g: Message) -> Message
     requires { ⌜ (message < 32) × (length (now node) ≡ nodeSize) ⌝ }
     ensures { λ r. ⌜ r ≡ closedMessage (nodeOf (now (node .entry))) message g ⌝ }
@@ -671,11 +524,11 @@ fn closed_message(node: &[u8], message: u8, g: Message) -> Message
     let n = gather(node, message, g, &mut values);
     if n == 0 {
         if did_none_come(node, message) {
-            return with_status(g, 21);
+            return message::with_status(g, 21);
         }
-        return with_status(g, 22);
+        return message::with_status(g, 22);
     }
-    agreed_message(g, agreement::agree(g.agreement, &values[..n]))
+    message::agreed_message(g, agreement::agree(g.agreement, &values[..n]))
 }
 
 fn close_messages(node: &mut [u8])

@@ -14,12 +14,14 @@ use Rattle.agreement.specs.declared.Agreed.the-variants.{Value, NoResult}
 use Rattle.store.specs.declared.Message.{Message}
 use Rattle.store.specs.declared.Field.{Field}
 use Rattle.store.specs.Node.{Frame, Node, countsOf, fieldCount, noFrame, noMessage, noField, frameAt, messageAt, fieldAt, withFrames, withMessages}
+use Rattle.message.specs.declared.Change.{Change}
+use Rattle.message.specs.Messages.{passesNow, offered, filtered, agreedOn, settled}
+use Rattle.message.specs.Fields.{staged, stageAfter}
 use Rattle.node.specs.declared.Owner.{Owner}
-use Rattle.node.specs.declared.Change.{Change}
 use Rattle.node.specs.Own.{changed, belongs, own}
-use Rattle.node.specs.Calls.{outcome, passesNow, sendAnswer, offered, moved, staged, stageAfter, sendOf}
+use Rattle.node.specs.Calls.{outcome, sendAnswer, moved, sendOf}
 use Rattle.node.specs.Calls.{invalidateAnswer, invalidateOf, assembleAnswer, assembleOf, consumedAnswer, consumedOf, deliverAnswer, kept, deliverOf}
-use Rattle.node.specs.Closing.{instances, noneCame, filtered, agreedOn, settled, closedMessage, closeMessages, forget, closeOf}
+use Rattle.node.specs.Closing.{instances, noneCame, closedMessage, closeMessages, forget, closeOf}
 use Rattle.node.specs.Sound.{Sound}
 use Rattle.node.proofs.Lists.{by-test}
 use Rattle.node.proofs.Kept.{send-kept, invalidate-kept, assemble-kept, consumed-kept, deliver-kept, close-kept}

@@ -18,8 +18,9 @@ use Rattle.store.specs.declared.Head.{Head}
 use Rattle.store.specs.declared.Field.{Field}
 use Rattle.store.specs.Node.{Frame, Node, frameCount, noFrame, noMessage}
 use Rattle.store.specs.Node.{frameAt, messageAt, fieldAt, withFrame, withFrames}
+use Rattle.message.specs.Fields.{writes}
 use Rattle.node.specs.Own.{own}
-use Rattle.node.specs.Calls.{sendAnswer, sendOf, invalidateAnswer, invalidateOf, suppressed, assembleAnswer, writes, written, assembleOf, assembled}
+use Rattle.node.specs.Calls.{sendAnswer, sendOf, invalidateAnswer, invalidateOf, suppressed, assembleAnswer, written, assembleOf, assembled}
 use Rattle.node.specs.Calls.{consumedAnswer, consumedOf, flagAnswer, flagOf, flagPlace, deliverAnswer, kept, deliverOf, receiveAnswer, receivedPlace}
 use Rattle.node.specs.Closing.{came, closeMessages, forget, closeOf}
 use Rattle.node.specs.Sound.{Sound, messagePlaces, itsStatusPlaces}

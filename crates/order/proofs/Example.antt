@@ -10,8 +10,10 @@ use Rattle.packing.specs.Places.{bitOf, withBit, putBit, placeOf, frameBit, bit
 use Rattle.packing.specs.Values.{isWidth, least, greatest, inRange, patternOf}
 use Rattle.filter.specs.Filter.{rules, passes}
 use Rattle.store.specs.Node.{Node}
+use Rattle.message.specs.Messages.{passesNow, offered}
+use Rattle.message.specs.Fields.{statusPlaces, writes}
 use Rattle.node.specs.Own.{chosen, changed, belongs, own}
-use Rattle.node.specs.Calls.{sendAnswer, passesNow, offered, sendOf, suppressed, assembleAnswer, statusPlaces, writes, written, assembleOf, assembled}
+use Rattle.node.specs.Calls.{sendAnswer, sendOf, suppressed, assembleAnswer, written, assembleOf, assembled}
 use Rattle.order.specs.Runs.{buffer, seenOf, next}
 use Rattle.order.specs.Order.{someOf, dependent, Numbered, In, here, there, Before, first, later, Distinct, Reordered}
 use Rattle.order.specs.Example.{small, sends0, sends1, assembles0}

@@ -13,9 +13,10 @@ use borrow.Author.Tests.{lt-ltb}
 use Rattle.whole.specs.Whole.{allOf}
 use Rattle.store.specs.declared.Message.{Message}
 use Rattle.store.specs.Node.{Node, messageCount, isSent, messageAt, fieldAt}
+use Rattle.message.specs.Fields.{goneField}
 use Rattle.node.specs.declared.Owner.{Owner}
 use Rattle.node.specs.Own.{fieldsOf}
-use Rattle.node.specs.Calls.{goneField, sendAnswer, sendOf, flagAnswer, flagOf, flagPlace}
+use Rattle.node.specs.Calls.{sendAnswer, sendOf, flagAnswer, flagOf, flagPlace}
 use Rattle.node.specs.Sound.{Sound}
 use Rattle.node.proofs.Answers.{send-tests, send-access}
 use Rattle.order.specs.Runs.{Call, send, readFlag, Seen, answerOf, seenOf, next, final}

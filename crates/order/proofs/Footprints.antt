@@ -14,13 +14,14 @@ use Rattle.store.specs.declared.Head.{Head}
 use Rattle.store.specs.declared.Message.{Message}
 use Rattle.store.specs.declared.Field.{Field}
 use Rattle.store.specs.Node.{Frame, Node, isValid, noFrame, noMessage, noField, frameAt, messageAt, fieldAt, withFrame, withMessage}
+use Rattle.message.specs.declared.Change.{Change}
+use Rattle.message.specs.Messages.{offered, invalidated}
+use Rattle.message.specs.Fields.{staged, stageAfter, goneField, writes as writesInto}
 use Rattle.node.specs.declared.Owner.{Owner}
-use Rattle.node.specs.declared.Change.{Change}
 use Rattle.node.specs.Own.{own, fieldsOf}
-use Rattle.node.specs.Calls.{staged, stageAfter, sendAnswer, offered, moved, sendOf, invalidateAnswer, invalidated, invalidateOf}
-use Rattle.node.specs.Calls.{invalidIn, suppressed, assembleAnswer, writes as writesInto, written, assembleOf, assembled}
-use Rattle.node.specs.Calls.{consumedAnswer, consumedOf, flagAnswer, goneField, flagOf, flagPlace, deliverAnswer, kept, deliverOf}
-use Rattle.node.specs.Calls.{receiveAnswer, receivedPlace}
+use Rattle.node.specs.Calls.{sendAnswer, moved, sendOf, invalidateAnswer, invalidateOf}
+use Rattle.node.specs.Calls.{invalidIn, suppressed, assembleAnswer, written, assembleOf, assembled}
+use Rattle.node.specs.Calls.{consumedAnswer, consumedOf, flagAnswer, flagOf, flagPlace, deliverAnswer, kept, deliverOf, receiveAnswer, receivedPlace}
 use Rattle.node.specs.Closing.{closeOf}
 use Rattle.node.proofs.Lists.{Every}
 use Rattle.order.specs.Runs.{Call, send, invalidate, assemble, consumed, readFlag, deliver, close, receive}

@@ -19,11 +19,12 @@ use Rattle.layout.proofs.Tests.{and-holds}
 use Rattle.store.specs.declared.Message.{Message}
 use Rattle.store.specs.declared.Field.{Field}
 use Rattle.store.specs.Node.{Node, messageCount, isSent, noField, frameAt, messageAt, fieldAt}
+use Rattle.message.specs.Messages.{withState, passesNow, withStatus, filtered, settled}
+use Rattle.message.specs.Fields.{statusPlaces}
 use Rattle.node.specs.declared.Owner.{Owner}
 use Rattle.node.specs.Own.{chosen, own}
-use Rattle.node.specs.Calls.{withState, passesNow, assembleAnswer, statusPlaces, assembleOf, assembled, receiveAnswer, receivedPlace}
-use Rattle.node.specs.Closing.{came, statusSet, counts, valueIn, instances, noneCame, withStatus, filtered, settled, closedMessage, isReceived}
-use Rattle.node.specs.Closing.{closeMessages, forget, closeOf}
+use Rattle.node.specs.Calls.{assembleAnswer, assembleOf, assembled, receiveAnswer, receivedPlace}
+use Rattle.node.specs.Closing.{came, statusSet, counts, valueIn, instances, noneCame, closedMessage, isReceived, closeMessages, forget, closeOf}
 use Rattle.node.specs.Sound.{Sound}
 use Rattle.node.proofs.Answers.{assemble-access}
 use Rattle.node.proofs.Closed.{message-closed}

@@ -7,7 +7,8 @@ use native.Mathlib.Omega.{arith}
 use Rattle.store.specs.declared.Message.{Message}
 use Rattle.store.specs.declared.Field.{Field}
 use Rattle.store.specs.Node.{Frame, Node, frameAt, messageAt, fieldAt, marked}
-use Rattle.node.specs.Calls.{withState, staged}
+use Rattle.message.specs.Messages.{withState}
+use Rattle.message.specs.Fields.{staged}
 use Rattle.order.specs.Runs.{Call, next}
 use Rattle.order.specs.Bare.{layoutOf}
 use Rattle.order.specs.Mirror.{Mirrors}

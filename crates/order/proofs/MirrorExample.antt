@@ -18,8 +18,9 @@ use Rattle.layout.specs.declared.Verdict.{Verdict}
 use Rattle.layout.proofs.Examples.{filled}
 use Rattle.store.specs.Node.{Node}
 use Rattle.store.specs.Start.{table, startHead, startField, startMessage, startMessageOrNone, startFrames, startMessages, startFields, startOf}
+use Rattle.message.specs.Messages.{passesNow, offered}
 use Rattle.node.specs.Own.{chosen, changed, belongs, own}
-use Rattle.node.specs.Calls.{sendAnswer, passesNow, offered, sendOf, suppressed, assembleAnswer, assembleOf, assembled}
+use Rattle.node.specs.Calls.{sendAnswer, sendOf, suppressed, assembleAnswer, assembleOf, assembled}
 use Rattle.node.specs.Closing.{came, noneCame}
 use Rattle.node.specs.Load.{loadOf}
 use Rattle.node.specs.Sound.{Sound}

@@ -19,11 +19,12 @@ use Rattle.agreement.specs.declared.Agreed.the-variants.{Value, NoResult}
 use Rattle.store.specs.declared.Message.{Message}
 use Rattle.store.specs.declared.Field.{Field}
 use Rattle.store.specs.Node.{Frame, Node, messageCount, noField, isSent, dataOf, frameAt, messageAt, fieldAt}
+use Rattle.message.specs.Messages.{withState, passesNow, filtered, agreedOn, settled}
+use Rattle.message.specs.Fields.{statusPlaces}
 use Rattle.node.specs.declared.Owner.{Owner}
 use Rattle.node.specs.Own.{own}
-use Rattle.node.specs.Calls.{withState, passesNow, statusPlaces, receiveAnswer, receivedPlace}
-use Rattle.node.specs.Closing.{came, statusSet, counts, valueIn, instances, noneCame}
-use Rattle.node.specs.Closing.{filtered, agreedOn, settled, closedMessage, isReceived, closeOf}
+use Rattle.node.specs.Calls.{receiveAnswer, receivedPlace}
+use Rattle.node.specs.Closing.{came, statusSet, counts, valueIn, instances, noneCame, closedMessage, isReceived, closeOf}
 use Rattle.node.specs.Sound.{Sound, messagePlaces, itsStatusPlaces}
 use Rattle.node.proofs.Closed.{message-closed}
 use Rattle.node.proofs.Delivered.{data-length}

@@ -16,10 +16,11 @@ use Rattle.store.specs.declared.Stage.{Stage}
 use Rattle.store.specs.declared.Stage.the-variants.{Waiting, Loaded, Gone}
 use Rattle.store.specs.declared.Field.{Field}
 use Rattle.store.specs.Node.{Node, fieldAt, noField}
+use Rattle.message.specs.declared.Change.{Change}
+use Rattle.message.specs.Fields.{staged, stageAfter, isGone, goneField}
 use Rattle.node.specs.declared.Owner.{Owner}
-use Rattle.node.specs.declared.Change.{Change}
 use Rattle.node.specs.Own.{names, own}
-use Rattle.node.specs.Calls.{outcome, staged, stageAfter, moved, isGone, goneField, sendAnswer, sendOf, invalidateAnswer, invalidateOf}
+use Rattle.node.specs.Calls.{outcome, moved, sendAnswer, sendOf, invalidateAnswer, invalidateOf}
 use Rattle.node.specs.Calls.{assembleAnswer, assembleOf, consumedAnswer, consumedOf, deliverAnswer, deliverOf}
 use Rattle.node.specs.Closing.{closeMessages, forget, closeOf}
 use Rattle.node.specs.Sound.{Sound}

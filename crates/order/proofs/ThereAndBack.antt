@@ -15,9 +15,10 @@ use borrow.Author.Tests.{lt-ltb, eq-eqb, ne-eqb}
 use Rattle.filter.specs.Filter.{rules, passes}
 use Rattle.store.specs.Node.{Node, frameCount, hasStatusBit, isSentFrame}
 use Rattle.store.specs.Node.{noFrame, noMessage, frameAt, messageAt, fieldAt, withFrame}
+use Rattle.message.specs.Messages.{passesNow, offered, invalidated}
 use Rattle.node.specs.declared.Owner.{Owner}
 use Rattle.node.specs.Own.{belongs, own}
-use Rattle.node.specs.Calls.{sendAnswer, passesNow, offered, sendOf, invalidateAnswer, invalidated, invalidateOf}
+use Rattle.node.specs.Calls.{sendAnswer, sendOf, invalidateAnswer, invalidateOf}
 use Rattle.node.specs.Calls.{assembleAnswer, assembleOf, assembled, deliverAnswer, kept, deliverOf}
 use Rattle.node.specs.Closing.{came, noneCame}
 use Rattle.node.specs.Sound.{Sound}

@@ -6,7 +6,8 @@ use Rattle.store.specs.declared.Stage.the-variants.{Gone}
 use Rattle.store.specs.declared.Message.{Message}
 use Rattle.store.specs.declared.Field.{Field}
 use Rattle.store.specs.Node.{Frame, Node, undelivered}
-use Rattle.node.specs.Calls.{withState, staged}
+use Rattle.message.specs.Messages.{withState}
+use Rattle.message.specs.Fields.{staged}
 
 -- a frame not delivered, without data
 abbrev pub bareFrame : Frame → Frame

@@ -7,7 +7,8 @@ use mathlib.Core.Logic.{_↔_}
 use Prim.Native.Nat.{ℕ, _<_}
 use lib.IntN.{ℤ}
 use Rattle.store.specs.Node.{Node, nodeOf, frameAt, messageAt}
-use Rattle.node.specs.Calls.{left, passesNow, assembled}
+use Rattle.message.specs.Messages.{passesNow}
+use Rattle.node.specs.Calls.{left, assembled}
 use Rattle.node.specs.Closing.{noneCame}
 use Rattle.node.specs.Load.{loadOf}
 use Rattle.node.specs.Sound.{Sound}

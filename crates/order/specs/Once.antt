@@ -20,11 +20,15 @@ use Rattle.layout.specs.declared.Verdict.{Verdict}
 use Rattle.layout.specs.declared.Counts.{Counts}
 use Rattle.listing.specs.Put.{Put}
 use Rattle.listing.specs.Text.{listing}
+use Rattle.store.specs.declared.Stage.{Stage}
 use Rattle.store.specs.declared.Head.{Head}
 use Rattle.store.specs.declared.Message.{Message}
 use Rattle.store.specs.declared.Field.{Field}
 use Rattle.store.specs.Node.{nodeOf, countsOf, frameAt, messageAt, fieldAt, dataOf, marked, filled, undelivered, withFrame, withMessage, withField}
 use Rattle.store.specs.Start.{startOf}
+use Rattle.message.specs.declared.Change.{Change}
+use Rattle.message.specs.Messages.{offered, invalidated, withStatus, agreedOn}
+use Rattle.message.specs.Fields.{staged, stageAfter, isGone, writes}
 use Rattle.node.specs.Calls.{left}
 use Rattle.node.specs.Load.{loadOf}
 use Rattle.order.specs.Runs.{Call, Seen, Memory, Does}
@@ -76,6 +80,14 @@ pub record Once : Type 0 where
   pub put-field : (b : List ℕ) (d : ℕ) (x : Field) → Single (λ (e : List ℕ). Memory e × (nodeOf e ≡ withField (nodeOf b) d x))
   pub start : (file : List ℕ) (frames messages fields : ℕ)
       → Single (λ (e : List ℕ). Memory e × (nodeOf e ≡ startOf file frames messages fields))
+  -- message
+  pub offered-message : (g : Message) (value : ℤ) → Single (λ (r : Message). r ≡ offered g value)
+  pub invalidated-message : (g : Message) → Single (λ (r : Message). r ≡ invalidated g)
+  pub with-status : (g : Message) (status : ℕ) → Single (λ (r : Message). r ≡ withStatus g status)
+  pub agreed-message : (g : Message) (value : Agreed) → Single (λ (r : Message). r ≡ agreedOn g value)
+  pub moved-field : (change : Change) (x : Field) → Single (λ (r : Field). r ≡ staged (stageAfter change (x .stage)) x)
+  pub stage-gone : (stage : Stage) → Single (λ (r : Bool). r ≡ isGone stage)
+  pub write-field : (buffer : List ℕ) (h : Head) (g : Message) (x : Field) → Single (λ (after : List ℕ). after ≡ writes h g x buffer)
   -- node: the eight calls, and loading
   pub call : (b : List ℕ) (c : Call) → Single (λ (o : Ended). Memory (o .memory) × Does b c (o .seen) (o .memory))
   pub load : (b file : List ℕ) → Single (λ (o : Returned). Memory (o .memory) × (left (o .answer) (o .memory) ≡ loadOf (nodeOf b) file))

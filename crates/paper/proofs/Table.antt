@@ -6,7 +6,7 @@ use Rattle.packing.specs.Places.{bitOf, withBit, putBit, placeOf, frameBit, bit
 use Rattle.packing.specs.Values.{patternOf}
 use Rattle.agreement.specs.Agreement.{sumOf, meanOf, messageValue, group, average, countOf, ahead, oneThat, vote, agreed}
 use Rattle.filter.specs.Filter.{rules, passes}
-use Rattle.node.specs.Calls.{passesNow, offered}
+use Rattle.message.specs.Messages.{passesNow, offered}
 use Rattle.paper.specs.Rows.{sent, Rows}
 
 pub rows : Rows

@@ -13,7 +13,7 @@ use Rattle.agreement.specs.Agreement.{agreed, statusOf}
 use Rattle.agreement.specs.declared.Agreed.the-variants.{Value}
 use Rattle.store.specs.declared.Message.{Message}
 use Rattle.store.specs.Node.{isValid}
-use Rattle.node.specs.Calls.{offered}
+use Rattle.message.specs.Messages.{offered}
 
 -- ---- the rows' words
 

@@ -9,10 +9,10 @@ use borrow.Author.Tests.{not-true, not-false}
 use Rattle.whole.specs.Whole.{allOf}
 use Rattle.store.specs.Node.{nodeOf}
 use Rattle.store.proofs.Laws.{fields-length}
+use Rattle.message.specs.Fields.{goneField}
 use Rattle.node.specs.declared.Cells.{Cells}
 use Rattle.node.specs.declared.Owner.{Owner}
 use Rattle.node.specs.Own.{fieldsOf}
-use Rattle.node.specs.Calls.{goneField}
 use Rattle.node.proofs.Turns.{ahead, first-ahead, last-ahead, Turn, turn, all-turn, all-skip, all-stop}
 use Rattle.node.proofs.all_gone.Statement.{statement}
 use Rattle.node.proofs.all_gone.Tie as tie

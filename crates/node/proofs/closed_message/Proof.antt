@@ -9,7 +9,8 @@ use borrow.Author.Needs.{needs}
 use Rattle.agreement.specs.Agreement.{agreed}
 use Rattle.agreement.specs.declared.Agreed.{Agreed}
 use Rattle.store.specs.Node.{nodeOf}
-use Rattle.node.specs.Closing.{instances, withStatus, agreedOn, closedMessage}
+use Rattle.message.specs.Messages.{withStatus, agreedOn}
+use Rattle.node.specs.Closing.{instances, closedMessage}
 use Rattle.node.proofs.Rounds.{closed-none, closed-some}
 use Rattle.node.proofs.closed_message.Statement.{statement}
 use Rattle.node.proofs.closed_message.Tie as tie

@@ -6,7 +6,8 @@ use borrow.Author.Needs.{needs}
 use Rattle.store.specs.declared.Message.{Message}
 use Rattle.store.specs.Node.{Stored, nodeOf, withMessage}
 use Rattle.store.proofs.Laws.{message-stored}
-use Rattle.node.specs.Calls.{invalidateAnswer, invalidated, invalidateOf}
+use Rattle.message.specs.Messages.{invalidated}
+use Rattle.node.specs.Calls.{invalidateAnswer, invalidateOf}
 use Rattle.node.proofs.Answers.{in-memory}
 use Rattle.node.proofs.Outcomes.{untouched, done}
 use Rattle.node.proofs.invalidate.Statement.{statement}
@@ -33,13 +34,17 @@ in-cell c =
 message-at-requires : tie.Need-message-at-requires
 message-at-requires c κs = (in-cell (c .before), search needs)
 
+invalidated-message-requires : tie.Need-invalidated-message-requires
+invalidated-message-requires c κs = search needs
+
 put-message-requires : tie.Need-put-message-requires
 put-message-requires c κs =
-    let start = c .before .before .before .before .before .before .before in
-    let known = c .before .before .before .before .before .before .slice-known in
-    let message = message-stored (start .args .node .now) (λ i. known .given i .fits) (start .args .message) in
-    let old : Stored (c .before .message-at .result) = rw (c .before .message-at .ensures) message in
-    (in-cell (c .before .before .before), record { held = old .held; old = old .old }, search needs)
+    let read = c .before .before in
+    let known = read .before .before .before .before .before in
+    let start = known .before in
+    let message = message-stored (start .args .node .now) (λ i. known .slice-known .given i .fits) (start .args .message) in
+    let old : Stored (read .message-at .result) = rw (read .message-at .ensures) message in
+    (in-cell (read .before .before), rw (c .invalidated-message .ensures) (record { held = old .held; old = old .old }), search needs)
 
 same-length-2 : tie.Need-same-length-2
 same-length-2 c = search needs
@@ -48,12 +53,14 @@ returns-2 : tie.Need-returns-2
 unfolding invalidateOf
 returns-2 c =
     let put = c .before .before in
-    let read = put .before .before in
+    let made = put .before in
+    let read = made .before .before in
     let answer = read .before .before in
     let start = answer .before .before .before .before in
     let n = nodeOf (start .args .node .now) in
     done _ _ _ n (sym (answer .before .invalidate-answer .ensures) ∙ answer .if1 .left)
-    (put .put-message .ensures ∙ ap (λ (g : Message). withMessage n (start .args .message) (invalidated g)) (read .message-at .ensures))
+    (put .put-message .ensures
+    ∙ ap (withMessage n (start .args .message)) (made .invalidated-message .ensures ∙ ap (λ (g : Message). invalidated g) (read .message-at .ensures)))
 
 pub invalidate-spec : {M : Type 1} → statement M
 invalidate-spec =
@@ -63,6 +70,7 @@ invalidate-spec =
     same-length
     returns
     message-at-requires
+    invalidated-message-requires
     put-message-requires
     same-length-2
     returns-2)

@@ -5,7 +5,7 @@ use mathlib.Core.Bool.{true, false}
 use lib.Dec.{eqb}
 use borrow.Author.Tests.{not-true, not-false}
 use borrow.Author.Needs.{needs}
-use Rattle.node.specs.Calls.{statusPlaces}
+use Rattle.message.specs.Fields.{statusPlaces}
 use Rattle.node.specs.Closing.{statusSet}
 use Rattle.node.proofs.is_status_set.Statement.{statement}
 use Rattle.node.proofs.is_status_set.Tie as tie

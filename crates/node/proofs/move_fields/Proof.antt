@@ -11,9 +11,9 @@ use Rattle.store.specs.declared.Stage.the-variants.{Waiting, Loaded, Gone}
 use Rattle.store.specs.declared.Field.{Field}
 use Rattle.store.specs.Node.{Node, StoredStage, nodeSize, nodeOf, fieldAt, withField, withFields}
 use Rattle.store.proofs.Laws.{fields-length, field-stored}
+use Rattle.message.specs.declared.Change.{Change}
+use Rattle.message.specs.Fields.{staged, stageAfter}
 use Rattle.node.specs.declared.Cells.{Cells}
-use Rattle.node.specs.declared.Change.{Change}
-use Rattle.node.specs.Calls.{staged, stageAfter}
 use Rattle.node.proofs.Turns.{behind, first-behind, last-behind, not-behind, Turn, turn, own-behind, other-behind}
 use Rattle.node.proofs.move_fields.Statement.{statement}
 use Rattle.node.proofs.move_fields.Tie as tie

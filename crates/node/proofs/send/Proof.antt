@@ -14,7 +14,8 @@ use Rattle.packing.proofs.Values.{range-wider}
 use Rattle.store.specs.declared.Message.{Message}
 use Rattle.store.specs.Node.{Node, Stored, isSigned, nodeOf, messageAt, withMessage}
 use Rattle.store.proofs.Laws.{message-stored}
-use Rattle.node.specs.Calls.{passesNow, offered, sendAnswer, sendOf}
+use Rattle.message.specs.Messages.{passesNow, offered}
+use Rattle.node.specs.Calls.{sendAnswer, sendOf}
 use Rattle.node.proofs.Lists.{by-test}
 use Rattle.node.proofs.Answers.{in-memory, send-tests}
 use Rattle.node.proofs.Outcomes.{untouched, done}

@@ -12,9 +12,10 @@ use Rattle.store.specs.declared.Message.{Message}
 use Rattle.store.specs.declared.Field.{Field}
 use Rattle.store.specs.Node.{nodeOf}
 use Rattle.store.proofs.Laws.{fields-length}
+use Rattle.message.specs.Fields.{writes}
 use Rattle.node.specs.declared.Owner.{Owner}
 use Rattle.node.specs.Own.{fieldsOf}
-use Rattle.node.specs.Calls.{writes, written}
+use Rattle.node.specs.Calls.{written}
 use Rattle.node.proofs.Turns.{ahead, last-ahead, Turn, turn, own-ahead, other-ahead, own-message}
 use Rattle.node.proofs.write_fields.Statement.{statement}
 use Rattle.node.proofs.write_fields.Tie as tie

@@ -1,12 +1,12 @@
--- `node::agreed_message` meets its contract, by whether there is a result. Assumes nothing.
+-- `message::agreed_message` meets its contract, by whether there is a result. Assumes nothing.
 use mathlib.Core.Path.{ap, _∙_}
 use native.Mathlib.Omega.{arith}
 use mir.Syntax.{w64}
 use mir.ValLaws.{toZ-ofZ}
 use borrow.Author.Needs.{needs}
-use Rattle.node.specs.Closing.{filtered}
-use Rattle.node.proofs.agreed_message.Statement.{statement}
-use Rattle.node.proofs.agreed_message.Tie as tie
+use Rattle.message.specs.Messages.{filtered}
+use Rattle.message.proofs.agreed_message.Statement.{statement}
+use Rattle.message.proofs.agreed_message.Tie as tie
 
 enum-told : tie.Need-enum-told
 enum-told c = search needs

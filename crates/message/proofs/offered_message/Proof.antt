@@ -1,12 +1,12 @@
--- `node::offered_message` meets its contract, by whether the value passed. Assumes nothing.
+-- `message::offered_message` meets its contract, by whether the value passed. Assumes nothing.
 use mathlib.Core.Path.{_≡_, sym, _∙_}
 use mathlib.Core.Bool.{true, false}
 use mir.Syntax.{w64}
 use mir.ValLaws.{toZ-ofZ}
 use borrow.Author.Needs.{needs}
-use Rattle.node.specs.Calls.{passesNow, offered}
-use Rattle.node.proofs.offered_message.Statement.{statement}
-use Rattle.node.proofs.offered_message.Tie as tie
+use Rattle.message.specs.Messages.{passesNow, offered}
+use Rattle.message.proofs.offered_message.Statement.{statement}
+use Rattle.message.proofs.offered_message.Tie as tie
 
 is-passed-requires : tie.Need-is-passed-requires
 is-passed-requires c κs = search needs

@@ -1,7 +1,7 @@
--- `node::moved_field` meets its contract: all but the stage stays. Assumes nothing.
+-- `message::moved_field` meets its contract: all but the stage stays. Assumes nothing.
 use borrow.Author.Needs.{needs}
-use Rattle.node.proofs.moved_field.Statement.{statement}
-use Rattle.node.proofs.moved_field.Tie as tie
+use Rattle.message.proofs.moved_field.Statement.{statement}
+use Rattle.message.proofs.moved_field.Tie as tie
 
 stage-after-requires : tie.Need-stage-after-requires
 stage-after-requires c κs = search needs

@@ -1,11 +1,11 @@
--- `node::is_passed` meets its contract: what the filter says of the message's own values. Assumes nothing.
+-- `message::is_passed` meets its contract: what the filter says of the message's own values. Assumes nothing.
 use native.Mathlib.Omega.{arith}
 use mir.Syntax.{w64}
 use mir.ValLaws.{toZ-ofZ}
 use borrow.Author.Needs.{needs}
-use Rattle.node.specs.Calls.{passesNow}
-use Rattle.node.proofs.is_passed.Statement.{statement}
-use Rattle.node.proofs.is_passed.Tie as tie
+use Rattle.message.specs.Messages.{passesNow}
+use Rattle.message.proofs.is_passed.Statement.{statement}
+use Rattle.message.proofs.is_passed.Tie as tie
 
 passes-requires : tie.Need-passes-requires
 passes-requires c κs = search needs

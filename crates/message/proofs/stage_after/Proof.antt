@@ -1,7 +1,7 @@
--- `node::stage_after` meets its contract, change by change and stage by stage. Assumes nothing.
+-- `message::stage_after` meets its contract, change by change and stage by stage. Assumes nothing.
 use borrow.Author.Needs.{needs}
-use Rattle.node.proofs.stage_after.Statement.{statement}
-use Rattle.node.proofs.stage_after.Tie as tie
+use Rattle.message.proofs.stage_after.Statement.{statement}
+use Rattle.message.proofs.stage_after.Tie as tie
 
 enum-told : tie.Need-enum-told
 enum-told c = search needs

@@ -1,4 +1,4 @@
--- `node::write_field` meets its contract: the value's bits and then, where the field has one, the status bit; packing keeps the length.
+-- `message::write_field` meets its contract: the value's bits and then, where the field has one, the status bit; packing keeps the length.
 -- Assumes nothing.
 use mathlib.Core.Path.{_≡_}
 use native.Mathlib.Omega.{arith}
@@ -12,9 +12,9 @@ use Rattle.packing.specs.Places.{placesIn, packed}
 use Rattle.packing.specs.Values.{patternOf}
 use Rattle.packing.proofs.Frame.{packed-length}
 use Rattle.store.specs.Node.{isValid, isBig}
-use Rattle.node.specs.Calls.{statusPlaces, writes}
-use Rattle.node.proofs.write_field.Statement.{statement}
-use Rattle.node.proofs.write_field.Tie as tie
+use Rattle.message.specs.Fields.{statusPlaces, writes}
+use Rattle.message.proofs.write_field.Statement.{statement}
+use Rattle.message.proofs.write_field.Tie as tie
 
 abbrev start : tie.After-pack → tie.Start
 start c = c .before .before .before .before .before .before

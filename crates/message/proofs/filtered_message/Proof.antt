@@ -1,14 +1,13 @@
--- `node::filtered_message` meets its contract, by whether the filter passes the value; what is stored as its bits is read back, since it fits.
+-- `message::filtered_message` meets its contract, by whether the filter passes the value; what is stored as its bits is read back, since it fits.
 -- Assumes nothing.
 use mathlib.Core.Path.{_≡_, refl, sym, _∙_}
 use mathlib.Core.Bool.{true, false}
 use mir.Syntax.{w64}
 use mir.ValLaws.{toZ-ofZ}
 use borrow.Author.Needs.{needs}
-use Rattle.node.specs.Calls.{passesNow}
-use Rattle.node.specs.Closing.{filtered}
-use Rattle.node.proofs.filtered_message.Statement.{statement}
-use Rattle.node.proofs.filtered_message.Tie as tie
+use Rattle.message.specs.Messages.{passesNow, filtered}
+use Rattle.message.proofs.filtered_message.Statement.{statement}
+use Rattle.message.proofs.filtered_message.Tie as tie
 
 is-passed-requires : tie.Need-is-passed-requires
 is-passed-requires c κs = search needs

@@ -340,8 +340,12 @@ fn frame_flag(random: &mut Random, file: &mut Vec<u8>) -> Option<()> {
     set_one_of(random, file, at, &[2, 3, 128, 255])
 }
 
+/// As often as not nothing else depends on the width: filter True and all words zero.
 fn message_width(random: &mut Random, file: &mut Vec<u8>) -> Option<()> {
     let at = any(random, file, MESSAGE, |_| true)?;
+    if random.once_in(2) {
+        file[at + 6..at + RECORD].fill(0);
+    }
     set_one_of(random, file, at + 2, &[0, 0, 33, 33, 34, 255])
 }
 

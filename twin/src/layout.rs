@@ -54,6 +54,18 @@ pub struct Layout {
     pub fields: Vec<Field>,
 }
 
+impl Layout {
+    pub fn fields_of_message(&self, message: usize) -> impl Iterator<Item = &Field> {
+        self.fields
+            .iter()
+            .filter(move |field| field.message == message)
+    }
+
+    pub fn fields_of_frame(&self, frame: usize) -> impl Iterator<Item = &Field> {
+        self.fields.iter().filter(move |field| field.frame == frame)
+    }
+}
+
 #[derive(Debug, PartialEq)]
 pub enum Verdict {
     Accepted(Layout),

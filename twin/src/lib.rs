@@ -1,6 +1,17 @@
 //! A second, independent reading of the paper, to be compared with the first by running both.
 
+pub mod agreement;
+pub mod bits;
+pub mod calls;
+pub mod case;
 pub mod changes;
+pub mod check;
+pub mod compare;
+pub mod counts;
 pub mod files;
+pub mod filter;
 pub mod layout;
+pub mod node;
+pub mod player;
 pub mod random;
+pub mod scripts;

@@ -1,162 +1,24 @@
-//! Runs the listing program on generated layout files and compares what it prints, byte for byte,
-//! with this package's own reading. The paper says nothing of the program's exit status and standard
-//! error, so these are not compared.
+//! A second, independent reading of the paper, compared with the listing program and the library.
+
+mod compare_library;
+mod compare_listings;
 
 use std::env;
-use std::io::{self, Write};
-use std::process::{Command, ExitCode, Stdio};
-use std::sync::atomic::{AtomicU64, Ordering::SeqCst};
-use std::thread;
+use std::process::ExitCode;
 
-use twin::files;
-use twin::layout::{listing, read, Verdict, RECORD};
-
-const COUNT: u64 = 10_000;
-const SEED: u64 = 1;
-const THREADS: usize = 2;
-
-/// With at least so many files, each verdict has to occur at least so often.
-const ENOUGH_FILES: u64 = 5_000;
-const LEAST: u64 = 20;
-
-struct Task {
-    list: String,
-    count: u64,
-    seed: u64,
-}
-
-/// How often each verdict occurred: accepted at 0, else at the refusal's number.
-type Counts = [u64; 8];
-
-/// The file at which the comparison stopped, and what the program printed for it if it could run.
-struct Stop {
-    index: u64,
-    printed: io::Result<Vec<u8>>,
-}
+const USAGE: &str = "usage: twin layouts LIST [COUNT] [SEED]
+       twin calls --player COMMAND [--calls N] [--files N] [--seed S]";
 
 fn main() -> ExitCode {
     let arguments: Vec<String> = env::args().skip(1).collect();
-    let Some(task) = task(&arguments) else {
-        eprintln!("usage: twin layouts LIST [COUNT] [SEED]");
-        return ExitCode::from(2);
+    let words: Vec<&str> = arguments.iter().map(String::as_str).collect();
+    let result = match words[..] {
+        ["layouts", ref rest @ ..] => compare_listings::task(rest).map(compare_listings::run),
+        ["calls", ref rest @ ..] => compare_library::task(rest).map(compare_library::run),
+        _ => None,
     };
-    match compare(&task) {
-        Ok(counts) => conclude(&task, counts),
-        Err(stop) => report(&task, stop),
-    }
-}
-
-fn task(arguments: &[String]) -> Option<Task> {
-    let number = |place: usize, default: u64| match arguments.get(place) {
-        None => Some(default),
-        Some(text) => text.parse().ok(),
-    };
-    if arguments.first()? != "layouts" || arguments.len() > 4 {
-        return None;
-    }
-    Some(Task {
-        list: arguments.get(1)?.clone(),
-        count: number(2, COUNT)?,
-        seed: number(3, SEED)?,
+    result.unwrap_or_else(|| {
+        eprintln!("{USAGE}");
+        ExitCode::from(2)
     })
-}
-
-/// Compares all files, the threads taking the next one each time. If some differ, the lowest stop
-/// is given, so that one seed always stops at the same file.
-fn compare(task: &Task) -> Result<Counts, Stop> {
-    let next = AtomicU64::new(0);
-    let end = AtomicU64::new(task.count);
-    let results: Vec<Result<Counts, Stop>> = thread::scope(|scope| {
-        let work = || compare_some(task, &next, &end);
-        let threads = [(); THREADS].map(|()| scope.spawn(work));
-        threads.map(|thread| thread.join().unwrap()).into()
-    });
-    let mut total = Counts::default();
-    let mut stops = Vec::new();
-    for result in results {
-        match result {
-            Ok(counts) => (0..8).for_each(|verdict| total[verdict] += counts[verdict]),
-            Err(stop) => stops.push(stop),
-        }
-    }
-    match stops.into_iter().min_by_key(|stop| stop.index) {
-        None => Ok(total),
-        Some(stop) => Err(stop),
-    }
-}
-
-fn compare_some(task: &Task, next: &AtomicU64, end: &AtomicU64) -> Result<Counts, Stop> {
-    let mut counts = Counts::default();
-    loop {
-        let index = next.fetch_add(1, SeqCst);
-        if index >= end.load(SeqCst) {
-            return Ok(counts);
-        }
-        let file = files::file(task.seed, index);
-        let printed = run(&task.list, &file);
-        if !matches!(&printed, Ok(text) if text == listing(&file).as_bytes()) {
-            end.fetch_min(index, SeqCst);
-            return Err(Stop { index, printed });
-        }
-        match read(&file) {
-            Verdict::Accepted(_) => counts[0] += 1,
-            Verdict::Refused { number, .. } => counts[usize::from(number)] += 1,
-        }
-    }
-}
-
-/// What the program prints with the file on its standard input.
-fn run(list: &str, file: &[u8]) -> io::Result<Vec<u8>> {
-    let mut child = Command::new(list)
-        .stdin(Stdio::piped())
-        .stdout(Stdio::piped())
-        .spawn()?;
-    let mut input = child.stdin.take().expect("standard input is a pipe");
-    thread::scope(|scope| {
-        // A thread writes while this one reads, so that neither program waits for the other.
-        scope.spawn(move || {
-            // The program may end without reading a file that is too long, so an error is no fault.
-            let _ = input.write_all(file);
-        });
-        Ok(child.wait_with_output()?.stdout)
-    })
-}
-
-fn conclude(task: &Task, counts: Counts) -> ExitCode {
-    let refused: Vec<String> = (1..8).map(|n| format!("{n}: {}", counts[n])).collect();
-    println!(
-        "{} files alike: accepted {}; refused {}",
-        task.count,
-        counts[0],
-        refused.join(", ")
-    );
-    if task.count >= ENOUGH_FILES && counts.iter().any(|&count| count < LEAST) {
-        println!("a verdict occurred fewer than {LEAST} times");
-        return ExitCode::from(1);
-    }
-    ExitCode::SUCCESS
-}
-
-fn report(task: &Task, stop: Stop) -> ExitCode {
-    let file = files::file(task.seed, stop.index);
-    match stop.printed {
-        Err(error) => {
-            println!("{} cannot be run: {error}", task.list);
-            ExitCode::from(2)
-        }
-        Ok(printed) => {
-            println!("difference at file {} of seed {}", stop.index, task.seed);
-            println!("file ({} bytes):\n{}", file.len(), hex(&file));
-            println!("expected:\n{}", listing(&file));
-            println!("printed:\n{}", String::from_utf8_lossy(&printed));
-            ExitCode::from(1)
-        }
-    }
-}
-
-/// The bytes as hex, one record to a line.
-fn hex(file: &[u8]) -> String {
-    let line = |record: &[u8]| -> String { record.iter().map(|b| format!("{b:02x}")).collect() };
-    let lines: Vec<String> = file.chunks(RECORD).map(line).collect();
-    lines.join("\n")
 }

@@ -377,14 +377,15 @@ fn group_fault(file: &[u8], i: usize, c: Counts) -> bool
     requires { ⌜ (i ≤ 192) × (c .frames ≤ 192) ⌝ }
     ensures { λ b. ⌜ b ≡ groupFault (now (file .entry)) i c ⌝ }
 {
-    let kind = byte(file, i, 0);
+    if !(byte(file, i, 0) == 3) {
+        return false;
+    }
     let r = field_at(file, i);
     let g = message_at(file, c.frames + r.message as usize);
-    (kind == 3)
-        & ((8 <= fields_of(file, r.message, i))
-            | (128 <= c.fields)
-            | any_unlike(file, r, i)
-            | ((g.direction == 1) & (!(g.filter == 0) & (r.status == 0))))
+    (8 <= fields_of(file, r.message, i))
+        | (128 <= c.fields)
+        | any_unlike(file, r, i)
+        | ((g.direction == 1) & (!(g.filter == 0) & (r.status == 0)))
 }
 
 // ---- PLACE
@@ -436,8 +437,11 @@ fn clash_at(file: &[u8], c: Counts, g: Message, r: Field, k: usize) -> bool
     ensures { λ b. ⌜ b ≡ clashAt (now (file .entry)) c g r k ⌝ }
 {
     let q = field_at(file, k);
+    if !((byte(file, k, 0) == 3) & (q.frame == r.frame)) {
+        return false;
+    }
     let e = message_at(file, c.frames + q.message as usize);
-    (byte(file, k, 0) == 3) & ((q.frame == r.frame) & fields_clash(g, r, e, q))
+    fields_clash(g, r, e, q)
 }
 
 fn any_clash(file: &[u8], c: Counts, g: Message, r: Field, i: usize) -> bool
@@ -456,17 +460,15 @@ fn place_fault(file: &[u8], i: usize, c: Counts) -> bool
     requires { ⌜ (i ≤ 192) × (c .frames ≤ 192) ⌝ }
     ensures { λ b. ⌜ b ≡ placeFault (now (file .entry)) i c ⌝ }
 {
-    let kind = byte(file, i, 0);
+    if !(byte(file, i, 0) == 3) {
+        return false;
+    }
     let r = field_at(file, i);
     let g = message_at(file, c.frames + r.message as usize);
     let h = frame_at(file, r.frame as usize);
     let a = message_run(g, r);
     let b = status_run(r);
-    (kind == 3)
-        & (past_end(h.length, a)
-            | past_end(h.length, b)
-            | runs_meet(a, b)
-            | any_clash(file, c, g, r, i))
+    past_end(h.length, a) | past_end(h.length, b) | runs_meet(a, b) | any_clash(file, c, g, r, i)
 }
 
 // ---- the verdict

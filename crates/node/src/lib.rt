@@ -89,10 +89,14 @@ fn is_named(owner: Owner, x: Field) -> bool
     }
 }
 
+// The name is tested first: most cells name another frame.
 fn does_belong(c: Counts, owner: Owner, x: Field) -> bool
     ensures { λ r. ⌜ r ≡ belongs c owner x ⌝ }
 {
-    ((x.message as usize) < c.messages) & (((x.frame as usize) < c.frames) & is_named(owner, x))
+    if !is_named(owner, x) {
+        return false;
+    }
+    ((x.message as usize) < c.messages) & ((x.frame as usize) < c.frames)
 }
 
 // An owner's fields move on; the other cells stay.

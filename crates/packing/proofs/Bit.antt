@@ -6,6 +6,7 @@ use Prim.Native.Nat.{ℕ, zero, suc, _+_, _*_, _/_, _%_, _^_, _<_, _≤_}
 use native.Mathlib.Nat.{div-div-eq-div-mul, div-mul-le-self, mod-le, mod-lt, mul-assoc, mul-le-mul-right, pow-suc, pow-succ'}
 use native.Mathlib.Nat.{le-trans, not-suc-le-zero, zero-lt-suc}
 use native.Mathlib.Omega.{arith}
+use lib.Pow.{high, shr-shr, split}
 use Rattle.packing.specs.Places.{bitOf, withBit}
 
 -- ---- a bit, and the number halved
@@ -44,6 +45,37 @@ half-zero x b h = omega (arith, with-zero x b)
 
 half-suc : (x k b : ℕ) → withBit x (suc k) b / 2 ≡ withBit (x / 2) k b
 half-suc x k b = omega (arith, with-suc x k b)
+
+-- ---- two numbers side by side
+
+-- y above n bits of x
+above : (n y : ℕ) → y * 2 ^ suc n ≡ y * 2 ^ n * 2
+above n y = rw pow-suc (sym (mul-assoc _ _ _))
+
+pub bit-low : (n y x m : ℕ) → m < n → bitOf (y * 2 ^ n + x) m ≡ bitOf x m
+bit-low zero y x m h = absurd (not-suc-le-zero h)
+bit-low (suc n) y x zero h = omega (arith, bit-zero (y * 2 ^ suc n + x), bit-zero x, above n y)
+bit-low (suc n) y x (suc m) h =
+    let half : (y * 2 ^ suc n + x) / 2 ≡ y * 2 ^ n + x / 2 = omega (arith, above n y) in
+    bit-suc (y * 2 ^ suc n + x) m ∙ rw half (bit-low n y (x / 2) m (omega arith)) ∙ sym (bit-suc x m)
+
+pub bit-high : (n y x m : ℕ) → x < 2 ^ n → bitOf (y * 2 ^ n + x) (n + m) ≡ bitOf y m
+unfolding bitOf
+bit-high n y x m h = rw (← shr-shr (y * 2 ^ n + x) n m, high y n h)
+
+-- the lowest n bits
+pub bit-lowest : (n v m : ℕ) → m < n → bitOf (v % 2 ^ n) m ≡ bitOf v m
+bit-lowest n v m h = sym (bit-low n (v / 2 ^ n) (v % 2 ^ n) m h) ∙ ap (λ (x : ℕ). bitOf x m) (split v n)
+
+-- a number of n bits is known by them
+pub same-bits : (n x y : ℕ) → x < 2 ^ n → y < 2 ^ n → ((k : ℕ) → k < n → bitOf x k ≡ bitOf y k) → x ≡ y
+same-bits zero x y h l e = omega arith
+same-bits (suc n) x y h l e =
+    let halves : x / 2 ≡ y / 2 =
+    same-bits n (x / 2) (y / 2) (omega (arith, pow-suc 2 n)) (omega (arith, pow-suc 2 n))
+    (λ k b. sym (bit-suc x k) ∙ e (suc k) (omega arith) ∙ bit-suc y k)
+    in
+    omega (arith, e 0 (omega arith), bit-zero x, bit-zero y)
 
 -- ---- a bit replaced
 

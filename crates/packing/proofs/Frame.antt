@@ -148,7 +148,7 @@ packed-bit (p ∷ ps) v f (suc j) i d h =
     packed-bit ps (v / 2) (putBit f p (v % 2)) j (first p ps v f i d .1) (d .1) (omega arith) ∙ sym (bit-suc v j)
 
 -- the lowest bits of a number: those of its half, and its parity
-lowest : (v n : ℕ) → v % 2 ^ suc n ≡ v / 2 % 2 ^ n * 2 + v % 2
+pub lowest : (v n : ℕ) → v % 2 ^ suc n ≡ v / 2 % 2 ^ n * 2 + v % 2
 lowest v n = rw (← add-one n) (mod-pow-add v n 1)
 
 -- what is unpacked is what was packed, as far as there are places for it

@@ -4,3 +4,4 @@ pub mod Frame
 pub mod Negation
 pub mod Places
 pub mod Values
+pub mod Windows

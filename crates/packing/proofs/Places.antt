@@ -36,13 +36,13 @@ frame-bit-own false start w j k h l e = omega arith
 frame-bit-own true start w j k h l e = omega arith
 
 -- a message bit's place lies in the frame
-pub message-place-below : (big : Bool) (n start w j : ℕ) → j < w → start + w ≤ n * 8 → placeOf big (frameBit big start w j) < n * 8
+message-place-below : (big : Bool) (n start w j : ℕ) → j < w → start + w ≤ n * 8 → placeOf big (frameBit big start w j) < n * 8
 message-place-below big n start w j h l =
     let at = frame-bit-inside big start w j h in
     place-below big n (frameBit big start w j) (omega arith)
 
 -- each frame bit of the run is that of a message bit
-message-bit : (big : Bool) (start w i : ℕ) → start ≤ i → i < start + w → (j : ℕ) × (j < w) × (i ≡ frameBit big start w j)
+pub message-bit : (big : Bool) (start w i : ℕ) → start ≤ i → i < start + w → (j : ℕ) × (j < w) × (i ≡ frameBit big start w j)
 unfolding frameBit
 message-bit false start w i h l = (i - start, omega arith, omega arith)
 message-bit true start w i h l = (w - 1 - (i - start), omega arith, omega arith)
@@ -50,7 +50,7 @@ message-bit true start w i h l = (w - 1 - (i - start), omega arith, omega arith)
 -- ---- the places of n message bits from bit j on
 
 module _ (big : Bool) (start w : ℕ) where
-  pub bits-length : (j n : ℕ) → length (bitPlaces big start w j n) ≡ n
+  bits-length : (j n : ℕ) → length (bitPlaces big start w j n) ≡ n
   unfolding bitPlaces
   bits-length j zero = refl
   bits-length j (suc n) = ap suc (bits-length (j + 1) n)
@@ -91,27 +91,13 @@ module _ (big : Bool) (start w : ℕ) where
     bits-distinct (j + 1) n (omega arith),
   )
 
-  -- from bit 0 on all of them, from bit w on none; and the first of those from bit j on is bit j's
-  pub all-bits : bitPlaces big start w 0 (w - 0) ≡ places big start w
-  unfolding places
-  all-bits = let e : w - 0 ≡ w = omega arith in rw e
-
-  pub no-bits : bitPlaces big start w w (w - w) ≡ []
-  unfolding bitPlaces
-  no-bits = let e : w - w ≡ 0 = omega arith in rw e
-
-  pub next-bit : (j : ℕ) → j < w
-      → bitPlaces big start w j (w - j) ≡ placeOf big (frameBit big start w j) ∷ bitPlaces big start w (j + 1) (w - (j + 1))
-  unfolding bitPlaces
-  next-bit j h = let e : w - j ≡ suc (w - (j + 1)) = omega arith in rw e
-
 -- ---- the places of a whole message
 
 pub places-length : (big : Bool) (start w : ℕ) → length (places big start w) ≡ w
 unfolding places
 places-length big start w = bits-length big start w 0 w
 
-places-at : (big : Bool) (start w j : ℕ) → j < w → getD (places big start w) j 0 ≡ placeOf big (frameBit big start w j)
+pub places-at : (big : Bool) (start w j : ℕ) → j < w → getD (places big start w) j 0 ≡ placeOf big (frameBit big start w j)
 unfolding places
 places-at big start w j h =
     bits-at big start w 0 w j h ∙ ap (λ (i : ℕ). placeOf big (frameBit big start w i)) (omega arith)

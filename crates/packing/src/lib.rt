@@ -3,30 +3,63 @@ ghost use mathlib.Core.Path.{_≡_};
 ghost use Prim.Native.Nat.{_+_, _-_, _*_, _<_, _≤_, _^_};
 ghost use lib.ListN.{length};
 ghost use lib.Signed.{mag};
-ghost use Rattle.packing.specs.Places.{bitAt, putBit, placeOf, frameBit, places, inFrame, placesIn, packed, unpacked};
+ghost use Rattle.packing.specs.Places.{places, inFrame, placesIn, packed, unpacked};
 ghost use Rattle.packing.specs.Values.{inRange, valueOf, patternOf, extended};
+ghost use Rattle.packing.specs.Window.{Window, byteOf, windowOf, withWindow, lowBit, withBits};
 
-// ---- places
+// ---- a field's bytes, first .. past, as one number
 
-// The place of frame bit i. A field's bits lie below 255 + 32, whatever its record says.
-fn place_of(big: bool, i: usize) -> usize
-    requires { ⌜ i < 288 ⌝ }
-    ensures { λ r. ⌜ r ≡ placeOf big i ⌝ }
+// Byte d, counted from the one with the message's lowest bits.
+fn byte_of(big: bool, first: usize, past: usize, d: usize) -> usize
+    requires { ⌜ (first + d < past) × (past ≤ 36) ⌝ }
+    ensures { λ r. ⌜ (r ≡ byteOf big first past d) × (r < past) ⌝ }
 {
-    if big { i / 8 * 8 + (7 - i % 8) } else { i }
+    if big { past - 1 - d } else { first + d }
 }
 
-// The frame bit of message bit j.
-fn frame_bit(big: bool, start: usize, width: usize, j: usize) -> usize
-    requires { ⌜ (j < width) × (start + width ≤ 287) ⌝ }
-    ensures { λ r. ⌜ r ≡ frameBit big start width j ⌝ }
+// The byte of the highest bits is read first.
+fn window(frame: &[u8], big: bool, first: usize, past: usize) -> u64
+    requires { ⌜ Window (length (now frame)) first past ⌝ }
+    ensures { λ r. ⌜ r ≡ windowOf big first past (now (frame .entry)) 0 (past - first) ⌝ }
 {
-    if big {
-        start + (width - 1 - j)
-    } else {
-        start + j
+    let mut x: u64 = 0;
+    let mut d = past - first;
+    while 0 < d {
+        d -= 1;
+        x = x * 256 + frame[byte_of(big, first, past, d)] as u64;
+    }
+    x
+}
+
+fn put_window(frame: &mut [u8], big: bool, first: usize, past: usize, number: u64)
+    requires { ⌜ Window (length (now frame)) first past ⌝ }
+    ensures { λ _. ⌜ now (frame .exit) ≡ withWindow big first past 0 (past - first) number (now (frame .entry)) ⌝ }
+{
+    let mut y = number;
+    for d in 0..past - first {
+        frame[byte_of(big, first, past, d)] = (y % 256) as u8;
+        y = y / 256;
     }
 }
+
+// The number's bit that is the lowest of the field.
+fn low_bit(big: bool, start: usize, past: usize, end: usize) -> usize
+    requires { ⌜ (end ≤ past * 8) × (past * 8 < end + 8) × (past ≤ 36) ⌝ }
+    ensures { λ r. ⌜ (r ≡ lowBit big start past end) × (r < 8) ⌝ }
+{
+    if big { past * 8 - end } else { start % 8 }
+}
+
+// The old bits are taken out and the new ones put in, so that the other bits stay.
+fn with_bits(x: u64, k: usize, width: usize, pattern: u32) -> u64
+    requires { ⌜ (x < 2 ^ 40) × (k < 8) × (width ≤ 32) ⌝ }
+    ensures { λ r. ⌜ r ≡ withBits x k width pattern ⌝ }
+{
+    let m = 1u64 << width;
+    x - (((x >> k) % m) << k) + ((pattern as u64 % m) << k)
+}
+
+// ---- packing
 
 fn in_frame(bytes: usize, start: u8, width: u8) -> bool
     ensures { λ r. ⌜ r ≡ inFrame bytes start width ⌝ }
@@ -35,51 +68,27 @@ fn in_frame(bytes: usize, start: u8, width: u8) -> bool
     (width <= 32) & ((end + 7) / 8 <= bytes)
 }
 
-// ---- packing
-
-fn bit_at(frame: &[u8], p: usize) -> u32
-    requires { ⌜ p < length (now frame) * 8 ⌝ }
-    ensures { λ r. ⌜ r ≡ bitAt (now (frame .entry)) p ⌝ }
-{
-    let x = frame[p / 8] as u32;
-    (x >> (p % 8)) % 2
-}
-
-// The old bit is taken out of its byte and the new one put in, so that the byte's other bits stay.
-fn put_bit(frame: &mut [u8], p: usize, b: u32)
-    requires { ⌜ (p < length (now frame) * 8) × (b < 2) ⌝ }
-    ensures { λ _. ⌜ now (frame .exit) ≡ putBit (now (frame .entry)) p b ⌝ }
-{
-    let i = p / 8;
-    let k = p % 8;
-    let x = frame[i] as u32;
-    let old = (x >> k) % 2;
-    frame[i] = (x - (old << k) + (b << k)) as u8;
-}
-
 fn pack_bits(frame: &mut [u8], big: bool, start: usize, width: usize, pattern: u32)
-    requires { ⌜ (start + width ≤ length (now frame) * 8) × (start + width ≤ 287) ⌝ }
+    requires { ⌜ (start + width ≤ length (now frame) * 8) × (start + width ≤ 287) × (width ≤ 32) ⌝ }
     ensures { λ _. ⌜ now (frame .exit) ≡ packed (places big start width) pattern (now (frame .entry)) ⌝ }
 {
-    let mut v = pattern;
-    for j in 0..width {
-        put_bit(frame, place_of(big, frame_bit(big, start, width, j)), v % 2);
-        v = v / 2;
-    }
+    let end = start + width;
+    let first = start / 8;
+    let past = (end + 7) / 8;
+    let x = window(&frame[..], big, first, past);
+    let k = low_bit(big, start, past, end);
+    put_window(frame, big, first, past, with_bits(x, k, width, pattern));
 }
 
-// The highest bit is read first.
 fn unpack_bits(frame: &[u8], big: bool, start: usize, width: usize) -> u32
     requires { ⌜ (start + width ≤ length (now frame) * 8) × (start + width ≤ 287) × (width ≤ 32) ⌝ }
     ensures { λ r. ⌜ r ≡ unpacked (places big start width) (now (frame .entry)) ⌝ }
 {
-    let mut v: u32 = 0;
-    let mut j = width;
-    while 0 < j {
-        j -= 1;
-        v = v * 2 + bit_at(frame, place_of(big, frame_bit(big, start, width, j)));
-    }
-    v
+    let end = start + width;
+    let past = (end + 7) / 8;
+    let x = window(frame, big, start / 8, past);
+    let m = 1u64 << width;
+    ((x >> low_bit(big, start, past, end)) % m) as u32
 }
 
 // A pattern's lowest bits into the field's places. A status bit is a field of width 1. A field that does not lie in the frame changes nothing.

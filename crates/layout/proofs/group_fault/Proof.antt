@@ -1,7 +1,9 @@
--- GROUP: with what each callee ensures put in, the code's four tests are the definition's list.
+-- GROUP: a record of another kind passes; of a field, with what each callee ensures put in, the code's four tests are the definition's list.
 -- Assumes nothing.
 use mathlib.Core.Path.{refl}
+use lib.Dec.{eqb}
 use borrow.Author.Needs.{needs}
+use borrow.Author.Tests.{not-true, not-false}
 use Rattle.layout.specs.Records.{isField}
 use Rattle.layout.specs.Verdict.{groupFault}
 use Rattle.layout.proofs.group_fault.Statement.{statement}
@@ -28,15 +30,21 @@ fields-of-requires c κs = search needs
 any-unlike-requires : tie.Need-any-unlike-requires
 any-unlike-requires c κs = search needs
 
-returns : tie.Need-returns
+returns-passed : tie.Need-returns
 unfolding groupFault isField
-returns c =
+returns-passed c = rw (← c .before .byte .ensures, not-true (eqb (c .before .byte .result) 3) (c .if1 .taken))
+
+returns-field : tie.Need-returns-2
+unfolding groupFault isField
+returns-field c =
+    let t = c .before .before .before .before .before .before .before .before .before .before in
     rw (
       c .before .before .before .any-unlike .ensures,
       c .before .before .before .before .before .fields-of .ensures,
       c .before .before .before .before .before .before .message-at .ensures,
       c .before .before .before .before .before .before .before .before .before .field-at .ensures,
-      c .before .before .before .before .before .before .before .before .before .before .byte .ensures,
+      ← t .before .byte .ensures,
+      not-false (eqb (t .before .byte .result) 3) (t .if1 .left),
     )
     refl
 
@@ -45,10 +53,11 @@ group-fault-spec =
     tie.close
     (tie.spec
     byte-requires
+    returns-passed
     field-at-requires
     cast-message-at
     add-message-at
     message-at-requires
     fields-of-requires
     any-unlike-requires
-    returns)
+    returns-field)

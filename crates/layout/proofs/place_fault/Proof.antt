@@ -1,7 +1,9 @@
--- PLACE: with what each callee ensures put in, the code's four tests are the definition's list.
+-- PLACE: a record of another kind passes; of a field, with what each callee ensures put in, the code's four tests are the definition's list.
 -- Assumes nothing.
 use mathlib.Core.Path.{refl}
+use lib.Dec.{eqb}
 use borrow.Author.Needs.{needs}
+use borrow.Author.Tests.{not-true, not-false}
 use Rattle.layout.specs.Records.{isField}
 use Rattle.layout.specs.Verdict.{placeFault}
 use Rattle.layout.proofs.place_fault.Statement.{statement}
@@ -44,11 +46,16 @@ runs-meet-requires : tie.Need-runs-meet-requires
 runs-meet-requires c κs = search needs
 
 any-clash-requires : tie.Need-any-clash-requires
-any-clash-requires c κs = search needs
+any-clash-requires c κs = c .before .before .before .before .before .before .before .before .before .before .before .before .before .before .pre
 
-returns : tie.Need-returns
+returns-passed : tie.Need-returns
 unfolding placeFault isField
-returns c =
+returns-passed c = rw (← c .before .byte .ensures, not-true (eqb (c .before .byte .result) 3) (c .if1 .taken))
+
+returns-field : tie.Need-returns-2
+unfolding placeFault isField
+returns-field c =
+    let t = c .before .before .before .before .before .before .before .before .before .before .before .before in
     rw (
       c .any-clash .ensures,
       c .before .runs-meet .ensures,
@@ -59,7 +66,8 @@ returns c =
       c .before .before .before .before .before .before .frame-at .ensures,
       c .before .before .before .before .before .before .before .before .message-at .ensures,
       c .before .before .before .before .before .before .before .before .before .before .before .field-at .ensures,
-      c .before .before .before .before .before .before .before .before .before .before .before .before .byte .ensures,
+      ← t .before .byte .ensures,
+      not-false (eqb (t .before .byte .result) 3) (t .if1 .left),
     )
     refl
 
@@ -68,6 +76,7 @@ place-fault-spec =
     tie.close
     (tie.spec
     byte-requires
+    returns-passed
     field-at-requires
     cast-message-at
     add-message-at
@@ -80,4 +89,4 @@ place-fault-spec =
     past-end-requires-2
     runs-meet-requires
     any-clash-requires
-    returns)
+    returns-field)

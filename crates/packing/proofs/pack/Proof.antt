@@ -22,7 +22,7 @@ pack-bits-requires : tie.Need-pack-bits-requires
 pack-bits-requires c κs =
     let a = c .before .before .before .before .args in
     let h = in-frame-bounds (length (a .frame .now)) (a .start) (a .width) (lies (c .before)) in
-    (h .1, omega arith)
+    (h .1, omega arith, h .0)
 
 same-length : tie.Need-same-length
 same-length c = search needs

@@ -1,106 +1,58 @@
--- `packing::unpack_bits` meets its contract. The loop's invariant: the bits from message bit j on are read. The measure is j.
+-- `packing::unpack_bits` meets its contract: the number of the field's bytes, shifted down and cut to the width, is what `unpacked` says.
 -- Assumes nothing.
-use mathlib.Core.Path.{_≡_, ap, _∙_}
-use mathlib.Core.Bool.{Bool}
-use mathlib.Core.List.{List}
-use Prim.Native.Nat.{ℕ, suc, _+_, _-_, _*_, _^_, _<_, _≤_}
-use native.Mathlib.Nat.{pow-suc}
+use borrow.Author.Needs.{needs}
+use mathlib.Core.Path.{sym}
+use native.Mathlib.Nat.{lt-of-lt-of-le, mod-lt}
 use native.Mathlib.Omega.{arith}
-use lib.ListN.{length}
-use lib.Pow.{pow-mono}
-use Rattle.packing.specs.Places.{bitAt, placeOf, frameBit, bitPlaces, unpacked}
-use Rattle.packing.proofs.Frame.{bit-at-below, unpacked-below}
-use Rattle.packing.proofs.Places.{frame-bit-inside, message-place-below, bits-length, all-bits, no-bits, next-bit}
+use lib.Pow.{pow-mono, pow-pos}
+use Rattle.packing.proofs.Windows.{power, unpacked-window}
 use Rattle.packing.proofs.unpack_bits.Statement.{statement}
 use Rattle.packing.proofs.unpack_bits.Tie as tie
 
--- one turn: message bit j - 1 is read from its place, below the bits that are read
-turn : (big : Bool) (start w j v b p : ℕ) (f : List ℕ) → 0 < j → j ≤ w → p ≡ placeOf big (frameBit big start w (j - 1)) → b ≡ bitAt f p
-    → v ≡ unpacked (bitPlaces big start w j (w - j)) f → v * 2 + b ≡ unpacked (bitPlaces big start w (j - 1) (w - (j - 1))) f
-unfolding unpacked
-turn big start w j v b p f h l e d i =
-    let n : j - 1 + 1 ≡ j = omega arith in
-    rw (next-bit big start w (j - 1) (omega arith), n, d, e, i)
+add-end : tie.Need-add-end
+add-end c = search needs
 
-abbrev Inv-loop : tie.InvT-loop
-Inv-loop frame big start width v₀ j₀ v j = (j ≤ width) × (v ≡ unpacked (bitPlaces big start width j (width - j)) frame)
+add-past : tie.Need-add-past
+add-past c = search needs
 
-abbrev μ-loop : tie.MeasureT-loop
-μ-loop frame big start width v₀ j₀ v j = j
+window-requires : tie.Need-window-requires
+window-requires c κs = search needs
 
-loop-holds : tie.Need-loop-holds Inv-loop μ-loop
-unfolding unpacked
-loop-holds c = (omega arith, rw no-bits)
+shl-m : tie.Need-shl-m
+shl-m c = search needs
 
-sub-j : tie.Need-sub-j Inv-loop μ-loop
-sub-j c = omega arith
+low-bit-requires : tie.Need-low-bit-requires
+low-bit-requires c κs = search needs
 
--- what is read has room for one bit more
-room : (c : tie.In-loop Inv-loop μ-loop) → c .before .loop .v * 2 + 1 < 2 ^ 32
-room c =
-    let a = c .before .before .before .args in
-    let j = c .before .loop .j in
-    let bits = bitPlaces (a .big) (a .start) (a .width) j (a .width - j) in
-    let small = rw bits-length at (unpacked-below bits (a .frame .now)) in
-    let m = pow-mono {i = suc (a .width - j)} {j = 32} (omega arith) in
-    omega (arith, pow-suc 2 (a .width - j), c .before .loop .inv .1)
+shift-down : tie.Need-shr-result
+shift-down c = omega arith
 
-mul-v : tie.Need-mul-v Inv-loop μ-loop
-mul-v c = let h = room c in omega arith
+cut : tie.Need-rem-result
+cut c =
+    let w = c .before .before .before .args .width in
+    rw (power w (omega arith)) (pow-pos w)
 
-frame-bit-requires : tie.Need-frame-bit-requires Inv-loop μ-loop
-frame-bit-requires c κs = omega arith
+cast-result : tie.Need-cast-result
+cast-result c =
+    let w = c .before .before .before .args .width in
+    rw (power w (omega arith)) (record { fits = lt-of-lt-of-le (mod-lt _ (pow-pos w)) (pow-mono {j = 32} (omega arith)) })
 
-place-of-requires : tie.Need-place-of-requires Inv-loop μ-loop
-place-of-requires c κs =
-    let a = c .before .before .before .before .args in
-    let inside = frame-bit-inside (a .big) (a .start) (a .width) (c .before .before .loop .j - 1) (omega arith) in
-    omega (arith, c .frame-bit .ensures)
-
--- the place that the bit is read from
-at : (c : tie.After-place-of Inv-loop μ-loop) →
-    let a = c .before .before .before .before .before .args in
-    c .place-of .result ≡ placeOf (a .big) (frameBit (a .big) (a .start) (a .width) (c .before .before .before .loop .j - 1))
-at c = c .place-of .ensures ∙ ap (placeOf _) (c .before .frame-bit .ensures)
-
-bit-at-requires : tie.Need-bit-at-requires Inv-loop μ-loop
-bit-at-requires c κs =
-    let a = c .before .before .before .before .before .args in
-    let j = c .before .before .before .loop .j - 1 in
-    rw (at c) (message-place-below (a .big) (length (a .frame .now)) (a .start) (a .width) j (omega arith) (omega arith))
-
-add-v : tie.Need-add-v Inv-loop μ-loop
-add-v c =
-    let h = room (c .before .before .before) in
-    let b : c .bit-at .result < 2 = rw (c .bit-at .ensures) (bit-at-below _ _) in
-    omega arith
-
-loop-less : tie.Need-loop-less Inv-loop μ-loop
-loop-less c = omega arith
-
-loop-again : tie.Need-loop-again Inv-loop μ-loop
-loop-again c =
-    let l = c .before .before .before .before .loop in
-    (omega arith, turn _ _ _ _ _ _ _ _ (omega arith) (omega arith) (at (c .before)) (c .bit-at .ensures) (l .inv .1))
-
-returns : tie.Need-returns Inv-loop μ-loop
+returns : tie.Need-returns
 returns c =
-    let e : c .before .loop .j ≡ 0 = omega arith in
-    rw all-bits at (rw e at (c .before .loop .inv .1))
+    let a = c .before .before .before .args in
+    rw (power (a .width) (omega arith), c .low-bit .ensures .0, c .before .window .ensures)
+    (sym (unpacked-window (a .big) (a .start) (a .width) (a .frame .now) (λ i. c .before .before .shared-slice-known .given i .fits)))
 
 pub unpack-bits-spec : {M : Type 1} → statement M
 unpack-bits-spec =
     tie.close
     (tie.spec
-    Inv-loop
-    μ-loop
-    loop-holds
-    sub-j
-    mul-v
-    frame-bit-requires
-    place-of-requires
-    bit-at-requires
-    add-v
-    loop-less
-    loop-again
+    add-end
+    add-past
+    window-requires
+    shl-m
+    low-bit-requires
+    shift-down
+    cut
+    cast-result
     returns)

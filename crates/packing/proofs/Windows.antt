@@ -1,0 +1,355 @@
+-- A field's bytes as one number: a frame bit in them is one bit of the number, whether it is read or written, and the field's bits lie side by side
+-- there from its lowest bit on. So a field is unpacked by a shift and a remainder, and packed by putting its bits into the number; that this is
+-- what `packed` says is seen bit by bit.
+-- Assumes nothing.
+use mathlib.Core.Path.{_≡_, refl, sym, ap, _∙_}
+use mathlib.Core.Bool.{Bool, true, false}
+use mathlib.Core.List.{List, [], _∷_}
+use mathlib.Core.Logic.{_⊎_, inl, inr}
+use Prim.Native.Nat.{ℕ, zero, suc, _+_, _-_, _*_, _/_, _%_, _^_, _<_, _≤_}
+use native.Mathlib.Nat.{add-mul, add-zero, div-mul-le-self, le-trans, mod-le, mod-lt, mul-le-mul-right, zero-add}
+use native.Mathlib.Decide.{ℕ-discrete, decLt, decLe}
+use native.Mathlib.Omega.{arith}
+use lib.ListN.{length, getD, set, length-set}
+use lib.Pow.{pow-add, pow-mono, pow-pos, shl-exact, shr-shr, split}
+use lib.Seq.{ext-getD, getD-set-other, getD-set-same, set-out}
+use Rattle.whole.specs.Whole.{Bytes}
+use Rattle.packing.specs.Places.{bitOf, bitAt, placeOf, frameBit, places, packed, unpacked}
+use Rattle.packing.specs.Window.{byteOf, windowOf, withWindow, lowBit, withBits}
+use Rattle.packing.proofs.Bit.{bit-low, bit-high, bit-lowest, same-bits}
+use Rattle.packing.proofs.Frame.{packed-length, packed-bytes, packed-bit, packed-other, lowest}
+use Rattle.packing.proofs.Places.{frame-bit-inside, message-bit, places-at, places-length, places-inside, places-distinct, places-apart}
+
+-- ---- bits of a number replaced
+
+-- the code's shift of 1
+pub power : (n : ℕ) → n ≤ 32 → 1 * 2 ^ n % 2 ^ 64 ≡ 2 ^ n
+power n h = shl-exact {a = 1} 1 n 64 (omega arith) (omega arith) ∙ omega arith
+
+pub field-weight : (x k n : ℕ) → x / 2 ^ k % 2 ^ n * 2 ^ k ≤ x
+field-weight x k n = le-trans (mul-le-mul-right (2 ^ k) (mod-le (x / 2 ^ k) (2 ^ n))) (div-mul-le-self x (2 ^ k))
+
+-- the bits above, the new ones, and the bits below
+with-parts : (x k n v : ℕ) → withBits x k n v ≡ (x / 2 ^ k / 2 ^ n * 2 ^ n + v % 2 ^ n) * 2 ^ k + x % 2 ^ k
+unfolding withBits
+with-parts x k n v =
+    let a = x / 2 ^ k in
+    let old : a * 2 ^ k ≡ a / 2 ^ n * 2 ^ n * 2 ^ k + a % 2 ^ n * 2 ^ k = ap (λ (y : ℕ). y * 2 ^ k) (sym (split a n)) ∙ add-mul _ _ _ in
+    omega (arith, split x k, add-mul (a / 2 ^ n * 2 ^ n) (v % 2 ^ n) (2 ^ k))
+
+with-new : (x k n v j : ℕ) → j < n → bitOf (withBits x k n v) (k + j) ≡ bitOf v j
+with-new x k n v j h =
+    rw with-parts (bit-high k _ (x % 2 ^ k) j (mod-lt x (pow-pos k))) ∙ bit-low n (x / 2 ^ k / 2 ^ n) (v % 2 ^ n) j h ∙ bit-lowest n v j h
+
+with-below : (x k n v m : ℕ) → m < k → bitOf (withBits x k n v) m ≡ bitOf x m
+with-below x k n v m h = rw with-parts (bit-low k _ (x % 2 ^ k) m h) ∙ bit-lowest k x m h
+
+-- the bits from k + n on are those of the number shifted down
+with-above : (x k n v m : ℕ) → bitOf (withBits x k n v) (k + (n + m)) ≡ bitOf x (k + (n + m))
+with-above x k n v m =
+    let a = x / 2 ^ k in
+    rw with-parts (bit-high k _ (x % 2 ^ k) (n + m) (mod-lt x (pow-pos k)))
+    ∙ bit-high n (a / 2 ^ n) (v % 2 ^ n) m (mod-lt v (pow-pos n))
+    ∙ sym
+    (ap (λ (y : ℕ). bitOf y (k + (n + m))) (sym (split x k))
+    ∙ bit-high k a (x % 2 ^ k) (n + m) (mod-lt x (pow-pos k))
+    ∙ ap (λ (y : ℕ). bitOf y (n + m)) (sym (split a n))
+    ∙ bit-high n (a / 2 ^ n) (a % 2 ^ n) m (mod-lt a (pow-pos n)))
+
+with-other : (x k n v m : ℕ) → (m < k) ⊎ (k + n ≤ m) → bitOf (withBits x k n v) m ≡ bitOf x m
+with-other x k n v m (inl h) = with-below x k n v m h
+with-other x k n v m (inr h) =
+    let e : k + (n + (m - k - n)) ≡ m = omega arith in
+    rw e at (with-above x k n v (m - k - n))
+
+-- ---- reading and writing the bytes
+
+set-bytes : (f : List ℕ) (i x : ℕ) → Bytes f → x < 256 → Bytes (set f i x)
+set-bytes f i x b h k = go (ℕ-discrete k i) (decLt i (length f))
+  where
+    go : Dec (k ≡ i) → Dec (i < length f) → getD (set f i x) k 0 < 256
+    go (no n) d = rw (getD-set-other f i k x 0 n) (b k)
+    go (yes e) (yes l) = rw (e, getD-set-same f i x 0 l) h
+    go (yes e) (no o) = rw (set-out f i x (omega arith)) (b k)
+
+module _ (big : Bool) (first past : ℕ) where
+  byte-own : (d e : ℕ) → first + d < past → first + e < past → byteOf big first past d ≡ byteOf big first past e → d ≡ e
+  unfolding byteOf
+  byte-own d e h l q = own big q
+    where
+      own : (b : Bool) → byteOf b first past d ≡ byteOf b first past e → d ≡ e
+      own false q = omega arith
+      own true q = omega arith
+
+  byte-inside : (d n : ℕ) → first + d < past → past ≤ n → byteOf big first past d < n
+  unfolding byteOf
+  byte-inside d n h l = inside big
+    where
+      inside : (b : Bool) → byteOf b first past d < n
+      inside false = omega arith
+      inside true = omega arith
+
+  window-below : (f : List ℕ) → Bytes f → (d n : ℕ) → windowOf big first past f d n < 2 ^ (n * 8)
+  unfolding windowOf
+  window-below f b d zero = omega arith
+  window-below f b d (suc n) =
+      let p : 2 ^ (suc n * 8) ≡ 2 ^ (n * 8) * 256 = ap (λ (m : ℕ). 2 ^ m) (omega arith) ∙ pow-add 2 (n * 8) 8 in
+      omega (arith, window-below f b (d + 1) n, b (byteOf big first past d))
+
+  pub window-room : (f : List ℕ) → Bytes f → (d n k : ℕ) → n ≤ k → windowOf big first past f d n < 2 ^ (k * 8)
+  window-room f b d n k h =
+      let m = pow-mono {i = n * 8} {j = k * 8} (omega arith) in
+      omega (arith, window-below f b d n)
+
+  -- a turn of the code that reads them, from the highest on, and of the code that writes them, from the lowest on
+  pub read-turn : (f : List ℕ) (d n : ℕ) → 0 < d → d ≤ n
+      → windowOf big first past f d (n - d) * 256 + getD f (byteOf big first past (d - 1)) 0 ≡ windowOf big first past f (d - 1) (n - (d - 1))
+  unfolding windowOf
+  read-turn f d n h l =
+      let e : n - (d - 1) ≡ suc (n - d) = omega arith in
+      let m : d - 1 + 1 ≡ d = omega arith in
+      rw (e, m)
+
+  pub write-turn : (f g : List ℕ) (d n y : ℕ) → d < n → withWindow big first past d (n - d) y f ≡ g
+      → withWindow big first past (d + 1) (n - (d + 1)) (y / 256) (set f (byteOf big first past d) (y % 256)) ≡ g
+  unfolding withWindow
+  write-turn f g d n y h i = let e : n - d ≡ suc (n - (d + 1)) = omega arith in rw e at i
+
+  -- bit m of the number is bit m % 8 of its byte m / 8
+  window-bit : (f : List ℕ) → Bytes f → (d n m : ℕ) → m < n * 8
+      → bitOf (windowOf big first past f d n) m ≡ bitOf (getD f (byteOf big first past (d + m / 8)) 0) (m % 8)
+  unfolding windowOf
+  window-bit f b d zero m h = absurd (omega arith)
+  window-bit f b d (suc n) m h = go (decLt m 8) (λ l. window-bit f b (d + 1) n (m - 8) l)
+    where
+      rest : ℕ
+      rest = windowOf big first past f (d + 1) n
+
+      lowest : ℕ
+      lowest = getD f (byteOf big first past d) 0
+
+      go : Dec (m < 8)
+          → (m - 8 < n * 8 → bitOf rest (m - 8) ≡ bitOf (getD f (byteOf big first past (d + 1 + (m - 8) / 8)) 0) ((m - 8) % 8))
+          → bitOf (rest * 256 + lowest) m ≡ bitOf (getD f (byteOf big first past (d + m / 8)) 0) (m % 8)
+      go (yes l) i =
+          let e : d + m / 8 ≡ d = omega arith in
+          let k : m % 8 ≡ m = omega arith in
+          rw (e, k) (bit-low 8 rest lowest m l)
+      go (no l) i =
+          let s : 8 + (m - 8) ≡ m = omega arith in
+          let e : d + 1 + (m - 8) / 8 ≡ d + m / 8 = omega arith in
+          let k : (m - 8) % 8 ≡ m % 8 = omega arith in
+          rw s at (bit-high 8 rest lowest (m - 8) (b _)) ∙ rw (e, k) at (i (omega arith))
+
+  put-length : (d n y : ℕ) (f : List ℕ) → length (withWindow big first past d n y f) ≡ length f
+  unfolding withWindow
+  put-length d zero y f = refl
+  put-length d (suc n) y f = put-length (d + 1) n (y / 256) _ ∙ length-set f _ _
+
+  put-bytes : (d n y : ℕ) (f : List ℕ) → Bytes f → Bytes (withWindow big first past d n y f)
+  unfolding withWindow
+  put-bytes d zero y f b = b
+  put-bytes d (suc n) y f b = put-bytes (d + 1) n (y / 256) _ (set-bytes f (byteOf big first past d) (y % 256) b (omega arith))
+
+  -- a byte that is none of them stays
+  put-other : (d n y r : ℕ) (f : List ℕ) → ((e : ℕ) → d ≤ e → e < d + n → r ≡ byteOf big first past e → ⊥)
+      → getD (withWindow big first past d n y f) r 0 ≡ getD f r 0
+  unfolding withWindow
+  put-other d zero y r f o = refl
+  put-other d (suc n) y r f o =
+      put-other (d + 1) n (y / 256) r _ (λ e h l. o e (omega arith) (omega arith))
+      ∙ getD-set-other f (byteOf big first past d) r _ 0 (o d (omega arith) (omega arith))
+
+  -- byte d + e of them becomes byte e of the number
+  put-bit : (d n y e t : ℕ) (f : List ℕ) → first + (d + n) ≤ past → past ≤ length f → e < n → t < 8
+      → bitOf (getD (withWindow big first past d n y f) (byteOf big first past (d + e)) 0) t ≡ bitOf y (e * 8 + t)
+  unfolding withWindow
+  put-bit d zero y e t f w i h l = absurd (omega arith)
+  put-bit d (suc n) y zero t f w i h l =
+      let g = set f (byteOf big first past d) (y % 256) in
+      let z : d + 0 ≡ d = omega arith in
+      let m : 0 * 8 + t ≡ t = omega arith in
+      rw (
+        z,
+        m,
+        put-other (d + 1) n (y / 256) (byteOf big first past d) g
+            (λ e p q o. omega (arith, byte-own d e (omega arith) (omega arith) o)),
+        getD-set-same f (byteOf big first past d) (y % 256) 0 (byte-inside d (length f) (omega arith) i),
+      )
+      (bit-lowest 8 y t l)
+  put-bit d (suc n) y (suc e) t f w i h l =
+      let s : d + suc e ≡ d + 1 + e = omega arith in
+      let m : suc e * 8 + t ≡ 8 + (e * 8 + t) = omega arith in
+      let high : bitOf (y / 256) (e * 8 + t) ≡ bitOf y (8 + (e * 8 + t)) =
+      sym (bit-high 8 (y / 256) (y % 256) (e * 8 + t) (omega arith)) ∙ ap (λ (x : ℕ). bitOf x (8 + (e * 8 + t))) (split y 8)
+      in
+      rw (s, m) (put-bit (d + 1) n (y / 256) e t _ (omega arith) (rw length-set i) (omega arith) l ∙ high)
+
+-- ---- a frame bit as a bit of the number
+
+-- the number's bit of frame bit i
+unfoldable bitNumber : Bool → ℕ → ℕ → ℕ → ℕ
+bitNumber false first past i = i - first * 8
+bitNumber true first past i = past * 8 - 1 - i
+
+bit-place : (big : Bool) (first past i : ℕ) → first * 8 ≤ i → i < past * 8 →
+    let m = bitNumber big first past i in
+    (m < (past - first) * 8) × (byteOf big first past (m / 8) ≡ placeOf big i / 8) × (m % 8 ≡ placeOf big i % 8)
+unfolding bitNumber byteOf placeOf
+bit-place false first past i h l = (omega arith, omega arith, omega arith)
+bit-place true first past i h l = (omega arith, omega arith, omega arith)
+
+module _ (big : Bool) (first past i : ℕ) (h : first * 8 ≤ i) (l : i < past * 8) where
+  read-bit : (f : List ℕ) → Bytes f → bitOf (windowOf big first past f 0 (past - first)) (bitNumber big first past i) ≡ bitAt f (placeOf big i)
+  unfolding bitAt
+  read-bit f b =
+      let at = bit-place big first past i h l in
+      rw (← at .1, ← at .2) (rw zero-add at (window-bit big first past f b 0 (past - first) (bitNumber big first past i) (at .0)))
+
+  written-bit : (y : ℕ) (f : List ℕ) → past ≤ length f
+      → bitAt (withWindow big first past 0 (past - first) y f) (placeOf big i) ≡ bitOf y (bitNumber big first past i)
+  unfolding bitAt
+  written-bit y f p =
+      let m = bitNumber big first past i in
+      let at = bit-place big first past i h l in
+      let e : m / 8 * 8 + m % 8 ≡ m = omega arith in
+      rw (← at .1, ← at .2)
+      (rw (zero-add, e) at (put-bit big first past 0 (past - first) y (m / 8) (m % 8) f (omega arith) p (omega arith) (omega arith)))
+
+-- a byte outside the window keeps its bits
+kept-bit : (big : Bool) (first past i y : ℕ) (f : List ℕ) → (i < first * 8) ⊎ (past * 8 ≤ i)
+    → bitAt (withWindow big first past 0 (past - first) y f) (placeOf big i) ≡ bitAt f (placeOf big i)
+unfolding bitAt placeOf byteOf
+kept-bit big first past i y f o =
+    ap (λ (x : ℕ). bitOf x (placeOf big i % 8)) (put-other big first past 0 (past - first) y (placeOf big i / 8) f (λ e h l. outside big e o l))
+  where
+    outside : (b : Bool) (e : ℕ) → (i < first * 8) ⊎ (past * 8 ≤ i) → e < 0 + (past - first) → placeOf b i / 8 ≡ byteOf b first past e → ⊥
+    outside false e (inl o) l q = omega arith
+    outside false e (inr o) l q = omega arith
+    outside true e (inl o) l q = omega arith
+    outside true e (inr o) l q = omega arith
+
+-- two frames are equal if all their bits are
+same-frames : (big : Bool) (f g : List ℕ) → length f ≡ length g → Bytes f → Bytes g
+    → ((i : ℕ) → i < length f * 8 → bitAt f (placeOf big i) ≡ bitAt g (placeOf big i)) → f ≡ g
+unfolding bitAt placeOf
+same-frames big f g e b c h = ext-getD 0 f g e (λ r l. same-bits 8 (getD f r 0) (getD g r 0) (b r) (c r) (λ t k. bit big h r t l k))
+  where
+    bit : (o : Bool) → ((i : ℕ) → i < length f * 8 → bitAt f (placeOf o i) ≡ bitAt g (placeOf o i)) → (r t : ℕ) → r < length f → t < 8
+        → bitOf (getD f r 0) t ≡ bitOf (getD g r 0) t
+    bit false h r t l k =
+        let i = r * 8 + t in
+        let y : (i / 8 * 8 + i % 8) / 8 ≡ r = omega arith in
+        let m : (i / 8 * 8 + i % 8) % 8 ≡ t = omega arith in
+        rw (y, m) at (h i (omega arith))
+    bit true h r t l k =
+        let i = r * 8 + (7 - t) in
+        let y : (i / 8 * 8 + (7 - i % 8)) / 8 ≡ r = omega arith in
+        let m : (i / 8 * 8 + (7 - i % 8)) % 8 ≡ t = omega arith in
+        rw (y, m) at (h i (omega arith))
+
+-- ---- a field
+
+-- the bits of x from bit k on, where they stand at the places
+shifted : (ps f : List ℕ) (x k : ℕ) → ((j : ℕ) → j < length ps → bitOf x (k + j) ≡ bitAt f (getD ps j 0))
+    → unpacked ps f ≡ x / 2 ^ k % 2 ^ length ps
+unfolding unpacked bitOf
+shifted [] f x k h = omega arith
+shifted (p ∷ ps) f x k h =
+    let next : (j : ℕ) → k + 1 + j ≡ k + suc j = λ j. omega arith in
+    let half : x / 2 ^ k / 2 ≡ x / 2 ^ (k + 1) = shr-shr x k 1 in
+    let rest : unpacked ps f ≡ x / 2 ^ k / 2 % 2 ^ length ps =
+    rw half (shifted ps f x (k + 1) (λ j l. rw (next j) (h (suc j) (omega arith))))
+    in
+    let first : x / 2 ^ k % 2 ≡ bitAt f p = rw add-zero at (h 0 (omega arith)) in
+    omega (arith, lowest (x / 2 ^ k) (length ps))
+
+module _ (big : Bool) (s w : ℕ) where
+  abbrev firstOf : ℕ
+  firstOf = s / 8
+
+  abbrev pastOf : ℕ
+  pastOf = (s + w + 7) / 8
+
+  abbrev lowOf : ℕ
+  lowOf = lowBit big s pastOf (s + w)
+
+  number-in : (j : ℕ) → j < w → bitNumber big firstOf pastOf (frameBit big s w j) ≡ lowOf + j
+  unfolding bitNumber frameBit lowBit
+  number-in j h = go big
+    where
+      go : (o : Bool) → bitNumber o firstOf pastOf (frameBit o s w j) ≡ lowBit o s pastOf (s + w) + j
+      go false = omega arith
+      go true = omega arith
+
+  number-outside : (i : ℕ) → firstOf * 8 ≤ i → i < pastOf * 8 → (i < s) ⊎ (s + w ≤ i)
+      → (bitNumber big firstOf pastOf i < lowOf) ⊎ (lowOf + w ≤ bitNumber big firstOf pastOf i)
+  unfolding bitNumber lowBit
+  number-outside i h l o = go big o
+    where
+      go : (b : Bool) → (i < s) ⊎ (s + w ≤ i)
+          → (bitNumber b firstOf pastOf i < lowBit b s pastOf (s + w)) ⊎ (lowBit b s pastOf (s + w) + w ≤ bitNumber b firstOf pastOf i)
+      go false (inl a) = inl (omega arith)
+      go false (inr a) = inr (omega arith)
+      go true (inl a) = inr (omega arith)
+      go true (inr a) = inl (omega arith)
+
+  -- it is unpacked by a shift and a remainder
+  pub unpacked-window : (f : List ℕ) → Bytes f
+      → unpacked (places big s w) f ≡ windowOf big firstOf pastOf f 0 (pastOf - firstOf) / 2 ^ lowOf % 2 ^ w
+  unpacked-window f b = rw places-length at (shifted (places big s w) f _ lowOf (λ j l. bit j (rw places-length at l)))
+    where
+      bit : (j : ℕ) → j < w → bitOf (windowOf big firstOf pastOf f 0 (pastOf - firstOf)) (lowOf + j) ≡ bitAt f (getD (places big s w) j 0)
+      bit j h =
+          let i = frame-bit-inside big s w j h in
+          rw (places-at big s w j h, ← number-in j h) (read-bit big firstOf pastOf (frameBit big s w j) (omega arith) (omega arith) f b)
+
+  -- and packed by putting its bits into the number
+  module _ (v : ℕ) (f : List ℕ) (b : Bytes f) (h : s + w ≤ length f * 8) where
+    abbrev number : ℕ
+    number = windowOf big firstOf pastOf f 0 (pastOf - firstOf)
+
+    abbrev written : List ℕ
+    written = withWindow big firstOf pastOf 0 (pastOf - firstOf) (withBits number lowOf w v) f
+
+    new-bit : (j : ℕ) → j < w → bitAt written (placeOf big (frameBit big s w j)) ≡ bitOf v j
+    new-bit j l =
+        let i = frame-bit-inside big s w j l in
+        written-bit big firstOf pastOf (frameBit big s w j) (omega arith) (omega arith) (withBits number lowOf w v) f (omega arith)
+        ∙ rw (number-in j l) (with-new number lowOf w v j l)
+
+    old-bit : (i : ℕ) → (i < s) ⊎ (s + w ≤ i) → bitAt written (placeOf big i) ≡ bitAt f (placeOf big i)
+    old-bit i o = go (decLe (firstOf * 8) i) (decLt i (pastOf * 8))
+      where
+        go : Dec (firstOf * 8 ≤ i) → Dec (i < pastOf * 8) → bitAt written (placeOf big i) ≡ bitAt f (placeOf big i)
+        go (yes a) (yes c) =
+            written-bit big firstOf pastOf i a c (withBits number lowOf w v) f (omega arith)
+            ∙ with-other number lowOf w v (bitNumber big firstOf pastOf i) (number-outside i a c o)
+            ∙ read-bit big firstOf pastOf i a c f b
+        go (no a) c = kept-bit big firstOf pastOf i (withBits number lowOf w v) f (inl (omega arith))
+        go (yes a) (no c) = kept-bit big firstOf pastOf i (withBits number lowOf w v) f (inr (omega arith))
+
+    each-bit : (i : ℕ) → bitAt written (placeOf big i) ≡ bitAt (packed (places big s w) v f) (placeOf big i)
+    each-bit i = go (decLt i s) (decLt i (s + w))
+      where
+        outside : (i < s) ⊎ (s + w ≤ i) → bitAt written (placeOf big i) ≡ bitAt (packed (places big s w) v f) (placeOf big i)
+        outside o = old-bit i o ∙ sym (packed-other (placeOf big i) (places big s w) v f (places-apart big i s w o))
+
+        go : Dec (i < s) → Dec (i < s + w) → bitAt written (placeOf big i) ≡ bitAt (packed (places big s w) v f) (placeOf big i)
+        go (yes a) c = outside (inl a)
+        go (no a) (no c) = outside (inr (omega arith))
+        go (no a) (yes c) =
+            let m = message-bit big s w i (omega arith) c in
+            rw (m .2)
+            (new-bit (m .0) (m .1)
+            ∙ sym
+            (rw (places-at big s w (m .0) (m .1)) at
+            (packed-bit (places big s w) v f (m .0) (places-inside big (length f) s w h) (places-distinct big s w) (rw places-length (m .1)))))
+
+    pub packed-window : written ≡ packed (places big s w) v f
+    packed-window =
+        same-frames big written (packed (places big s w) v f)
+        (put-length big firstOf pastOf 0 (pastOf - firstOf) (withBits number lowOf w v) f ∙ sym (packed-length (places big s w) v f))
+        (put-bytes big firstOf pastOf 0 (pastOf - firstOf) (withBits number lowOf w v) f b)
+        (packed-bytes (places big s w) v f b)
+        (λ i l. each-bit i)

@@ -1,0 +1,37 @@
+-- A field's bytes as one number, which the code of packing reads and writes at once. The contracts of `pack` and `unpack` speak of places alone.
+-- Assumes nothing.
+use mathlib.Core.Bool.{Bool, true, false}
+use mathlib.Core.List.{List}
+use Prim.Native.Nat.{ℕ, zero, suc, _+_, _-_, _*_, _/_, _%_, _^_, _≤_}
+use lib.ListN.{getD, set}
+
+-- the bytes first .. past of a frame of n bytes, no more than a message of 32 bits can touch
+pub record Window (n first past : ℕ) : Type 0 where
+  pub ordered : first ≤ past
+  pub inside : past ≤ n
+  pub few : past ≤ first + 5
+  pub short : past ≤ 36
+
+-- byte d of these, counted from the one with the message's lowest bits
+unfoldable pub byteOf : Bool → ℕ → ℕ → ℕ → ℕ
+byteOf false first past d = first + d
+byteOf true first past d = past - 1 - d
+
+-- n of these bytes from byte d on as a number, byte d the lowest
+unfoldable pub windowOf : Bool → ℕ → ℕ → List ℕ → ℕ → ℕ → ℕ
+windowOf big first past f d zero = 0
+windowOf big first past f d (suc n) = windowOf big first past f (d + 1) n * 256 + getD f (byteOf big first past d) 0
+
+-- the frame with a number for these bytes
+unfoldable pub withWindow : Bool → ℕ → ℕ → ℕ → ℕ → ℕ → List ℕ → List ℕ
+withWindow big first past d zero y f = f
+withWindow big first past d (suc n) y f = withWindow big first past (d + 1) n (y / 256) (set f (byteOf big first past d) (y % 256))
+
+-- the number's bit that is the lowest of a field from start to end
+unfoldable pub lowBit : Bool → ℕ → ℕ → ℕ → ℕ
+lowBit false start past end = start % 8
+lowBit true start past end = past * 8 - end
+
+-- the number x with the lowest n bits of v for its n bits from bit k on
+unfoldable pub withBits : ℕ → ℕ → ℕ → ℕ → ℕ
+withBits x k n v = x - x / 2 ^ k % 2 ^ n * 2 ^ k + v % 2 ^ n * 2 ^ k

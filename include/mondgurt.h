@@ -1,0 +1,102 @@
+/*
+ * Mondgurt: one node of the message layer. Link target/staticlib/libmondgurt.a, which `rt staticlib mondgurt` proves and writes for x86-64 Linux.
+ *
+ * A node is memory of the caller. Any content of it is safe, but a node means something only after a mondgurt_load of it has answered 0.
+ * Message numbers and frame numbers count from 0; any number may be given, and one that is not in the layout is answered by MONDGURT_ID.
+ * Every answer but MONDGURT_OK leaves the node and the caller's memory as they were.
+ *
+ * What the caller owes: pointers are not null, except that of a file or of data of length 0; a length is not more than the memory behind its pointer;
+ * node, data and places do not overlap; and of the calls on one node, one ends before the next begins. Nothing is kept outside the node.
+ */
+#ifndef MONDGURT_H
+#define MONDGURT_H
+
+#include <stddef.h>
+#include <stdint.h>
+
+#ifdef __cplusplus
+extern "C" {
+#endif
+
+#define MONDGURT_NODE 2787 /* the bytes of a node */
+#define MONDGURT_FILE 4608 /* the bytes of the longest layout file */
+
+/* Equal nodes have equal bytes, so memcmp compares two. An assignment copies one. */
+typedef struct {
+    uint8_t bytes[MONDGURT_NODE];
+} mondgurt_node;
+
+/* Answers. A call tests in the order ID, ACCESS, VALUE, NOFUNC, SUPPRESSED. */
+#define MONDGURT_OK 0            /* done */
+#define MONDGURT_ID 16           /* message or frame number not in the layout; for the flag, also a received message */
+#define MONDGURT_ACCESS 17       /* wrong direction */
+#define MONDGURT_VALUE 18        /* value outside the message's range, or data not of the frame's length */
+#define MONDGURT_NOFUNC 19       /* invalidate, message without status bit */
+#define MONDGURT_RDA_FAILED 20   /* agreement without result */
+#define MONDGURT_NOT_RECEIVED 21 /* no frame of the message delivered, or its filter did not pass */
+#define MONDGURT_INVALIDATED 22  /* some frame delivered, but no instance counts */
+#define MONDGURT_SUPPRESSED 23   /* frame not to be sent */
+
+/* Layout refusals. */
+#define MONDGURT_SIZE 1    /* length not a multiple of 24, or above 4,608 */
+#define MONDGURT_ORDER 2   /* a record out of order */
+#define MONDGURT_RANGE 3   /* a byte or word outside its range */
+#define MONDGURT_REF 4     /* a field names an absent message or frame, or their directions differ */
+#define MONDGURT_GROUP 5   /* too many fields, or the fields of a message do not fit together */
+#define MONDGURT_PLACE 6   /* a bit past the frame's end, or used twice */
+#define MONDGURT_NOFIELD 7 /* a message has no field */
+
+/* The refusal in the answer of a load, or 0, and the record that was refused, counted from 0. */
+#define MONDGURT_REFUSAL(answer) ((answer) % 256)
+#define MONDGURT_RECORD(answer) ((answer) / 256)
+
+/*
+ * Reads a layout file. Answers 0, or refusal + 256 * record. At start each message holds its initial value, received ones have the status
+ * MONDGURT_NOT_RECEIVED, sent ones are invalid if they have a status bit and valid if not, and all fields are gone.
+ */
+uint32_t mondgurt_load(mondgurt_node *node, const uint8_t *file, size_t length);
+
+/*
+ * Puts a value to the message's filter. If it passes it is held and the message is valid; if not, the held value stays and the message is invalid.
+ * Either way all its fields become waiting. Answers OK in both cases, ID, ACCESS or VALUE.
+ */
+uint8_t mondgurt_send(mondgurt_node *node, uint64_t message, int64_t value);
+
+/* Makes the message invalid; nothing else changes. Answers OK, ID, ACCESS or NOFUNC. */
+uint8_t mondgurt_invalidate(mondgurt_node *node, uint64_t message);
+
+/*
+ * Each field of the frame writes the held value and, if present, its status bit into the data; all other bits stay. Waiting fields of this frame
+ * become loaded. Answers OK, ID, ACCESS, VALUE, or SUPPRESSED for an event frame with at least one field, all of whose messages are invalid.
+ */
+uint8_t mondgurt_assemble(mondgurt_node *node, uint64_t frame, uint8_t *data, size_t length);
+
+/* The frame has gone out: its loaded fields become gone, others stay. Answers OK, ID or ACCESS. */
+uint8_t mondgurt_consumed(mondgurt_node *node, uint64_t frame);
+
+/* Gives 1 into flag if all the message's fields are gone, else 0. Answers OK or ID. */
+uint8_t mondgurt_read_flag(const mondgurt_node *node, uint64_t message, uint8_t *flag);
+
+/*
+ * Keeps the data of a received frame until the round is closed, in place of an earlier delivery of it. valid is the controller status: with 0
+ * nothing changes, anything else is valid. Answers OK, ID, ACCESS or VALUE.
+ */
+uint8_t mondgurt_deliver(mondgurt_node *node, uint64_t frame, uint8_t valid, const uint8_t *data, size_t length);
+
+/*
+ * Ends the round: for each received message the counting instances (frame validly delivered, and status bit, if it has one, 1) are agreed on and the
+ * result is put to its filter; then the deliveries are forgotten. Answers OK.
+ */
+uint8_t mondgurt_close(mondgurt_node *node);
+
+/*
+ * Answers the status of the last closing: OK, and the held value goes into value; RDA_FAILED, NOT_RECEIVED or INVALIDATED. Or ID, or ACCESS for a
+ * sent message.
+ */
+uint8_t mondgurt_receive(const mondgurt_node *node, uint64_t message, int64_t *value);
+
+#ifdef __cplusplus
+}
+#endif
+
+#endif

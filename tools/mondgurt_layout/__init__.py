@@ -1,0 +1,1 @@
+"""Layouts of a Mondgurt node: as files, as text and as pictures."""

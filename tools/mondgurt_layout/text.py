@@ -1,0 +1,234 @@
+"""Layouts as text. A line is a frame, a message, or a field of the message above it; `#` begins a comment:
+
+    frame NAME LENGTH bytes  [little | big]  [received | sent]  [time | event]
+    message NAME WIDTH bits  [unsigned | signed]  [received | sent]  [pick any | average | vote]
+                             [filter FILTER]  [initial VALUE]
+    in FRAME at START  [status PLACE]
+
+What stands in brackets may come in any order. Not said, it is the first choice, `filter true`, `initial 0`, and no
+status bit. Frames and messages are numbered as they are written; fields are put in order.
+A value is decimal, or hexadecimal (0x3FF) as the pattern of the message's bits. FILTER is one of records.FILTERS.
+"""
+
+from __future__ import annotations
+
+import re
+from collections.abc import Iterable
+from typing import NamedTuple
+
+from .records import AGREEMENTS, DIRECTIONS, FILTERS, ORDERS, SIGNS, TRIGGERS, Field, Frame, Layout, Message, Record
+from .verdict import Refused, accept
+from .words import aligned, counted
+
+# A phrase sets a part of a record. Its words in capitals stand for names and numbers, and set the parts of that name.
+Phrases = dict[str, tuple[str, int]]
+
+
+def choices(part: str, phrases: Iterable[str]) -> Phrases:
+    """The phrases that set a part to 0, 1, 2 .."""
+    return {phrase: (part, number) for number, phrase in enumerate(phrases)}
+
+
+BEGIN = {
+    "frame NAME LENGTH bytes": ("kind", 1),
+    "frame NAME LENGTH byte": ("kind", 1),
+    "message NAME WIDTH bits": ("kind", 2),
+    "message NAME WIDTH bit": ("kind", 2),
+    "in FRAME at START": ("kind", 3),
+}
+# What may follow, by the kind.
+FOLLOW = {
+    "1": {**choices("order", ORDERS), **choices("direction", DIRECTIONS), **choices("trigger", TRIGGERS)},
+    "2": {
+        **choices("sign", SIGNS),
+        **choices("direction", DIRECTIONS),
+        **choices("agreement", AGREEMENTS),
+        **choices("filter", (f"filter {words}" for words in FILTERS)),
+        "initial INITIAL": ("initial", 0),
+    },
+    "3": {"status PLACE": ("present", 1)},
+}
+
+WORD = re.compile(r"-?\w+|[<>!]=|\S")
+NAME = re.compile(r"[A-Za-z_]\w*", re.ASCII)
+NUMBER = re.compile(r"-?[0-9]{1,10}|0x[0-9A-Fa-f]{1,8}")
+
+
+class Word(NamedTuple):
+    """A word with its line and column, both from 1."""
+
+    text: str
+    line: int
+    column: int
+
+
+# What a line says of each part.
+Said = dict[str, Word]
+
+
+class Mistake(Exception):
+    """What is wrong at a word of a text."""
+
+    def __init__(self, word: Word, words: str) -> None:
+        super().__init__(words)
+        self.line, self.column = word.line, word.column
+
+
+def fits(pattern: str, word: Word) -> bool:
+    """Whether a word can stand where a phrase has this one."""
+    if pattern in ("NAME", "FRAME"):
+        return bool(NAME.fullmatch(word.text))
+    return bool(NUMBER.fullmatch(word.text)) if pattern.isupper() else word.text == pattern
+
+
+def expected(patterns: Iterable[str]) -> str:
+    """What phrases want to see, as an English list."""
+    meanings = {"NAME": "a name", "FRAME": "the name of a frame"}
+    wanted = [meanings.get(pattern, "a number" if pattern.isupper() else f"`{pattern}`") for pattern in patterns]
+    *most, last = dict.fromkeys(wanted)
+    return f"{', '.join(most)} or {last}" if most else last
+
+
+def take(words: list[Word], phrases: Phrases) -> Said:
+    """What the phrase at the start of the words says; it is removed. No phrase is the beginning of another."""
+    first = words[0]
+    fitting = {tuple(phrase.split()): sets for phrase, sets in phrases.items()}
+    named = {}
+    at = 0
+    while at < min(map(len, fitting)):
+        word = words[0]
+        going_on = {phrase: sets for phrase, sets in fitting.items() if fits(phrase[at], word)}
+        if not going_on:
+            found = f"`{word.text}`" if word.text else "the end of the line"
+            raise Mistake(word, f"expected {expected(phrase[at] for phrase in fitting)}, found {found}")
+        fitting = going_on
+        pattern = min(fitting)[at]
+        if pattern.isupper():
+            named[pattern.lower()] = word
+        del words[0]
+        at += 1
+    [(part, number)] = fitting.values()
+    return {part: first._replace(text=str(number)), **named}
+
+
+def said_in(line: int, text: str) -> Said:
+    """What a line says of each part; an empty one says nothing."""
+    text = text.split("#")[0].rstrip()
+    words = [Word(found.group(), line, found.start() + 1) for found in WORD.finditer(text)]
+    words.append(Word("", line, len(text) + 1))
+    said: Said = {}
+    while words[0].text:
+        more = take(words, FOLLOW[said["kind"].text] if said else BEGIN)
+        part, word = next(iter(more.items()))
+        if part in said:
+            raise Mistake(word, f"the {part} is said twice")
+        said.update(more)
+    return said
+
+
+def numbers(said: Said) -> dict[str, int]:
+    """The parts that are said in numbers."""
+    texts = {part: word.text for part, word in said.items() if part not in ("kind", "name", "frame")}
+    return {part: int(text, 16 if text.startswith("0x") else 10) for part, text in texts.items()}
+
+
+def frame_of(number: int, said: Said) -> Frame:
+    """The frame that a line describes."""
+    return Frame(said["name"].text, number, **numbers(said))
+
+
+def message_of(number: int, said: Said) -> Message:
+    """The message that a line describes."""
+    message = Message(said["name"].text, number, **numbers(said))
+    if message.sign and 1 <= message.width <= 32:
+        for part in {"x1", "x2", "initial"} & said.keys():
+            pattern = getattr(message, part)
+            if said[part].text.startswith("0x") and pattern >> message.width - 1 == 1:
+                message = message._replace(**{part: pattern - 2**message.width})
+    return message
+
+
+def field_of(message: int, frames: list[str], said: Said) -> Field:
+    """The field that a line describes."""
+    frame = said["frame"]
+    if frame.text not in frames:
+        raise Mistake(frame, f"there is no frame {frame.text}")
+    return Field(message, frames.index(frame.text), **numbers(said))
+
+
+def parse(text: str) -> Layout:
+    """The layout that a text describes, or Mistake."""
+    frames: dict[str, Said] = {}
+    messages: dict[str, Said] = {}
+    fields: list[tuple[int, Said]] = []
+    for line, content in enumerate(text.split("\n"), 1):
+        said = said_in(line, content)
+        if "frame" in said:
+            if not messages:
+                raise Mistake(said["kind"], "expected a message before its fields")
+            fields.append((len(messages) - 1, said))
+        elif said:
+            known = frames if "length" in said else messages
+            name = said["name"]
+            if name.text in known:
+                raise Mistake(name, f"the name {name.text} is taken in line {known[name.text]['name'].line}")
+            known[name.text] = said
+    lines: list[tuple[Record, Said]] = []
+    lines += [(frame_of(number, said), said) for number, said in enumerate(frames.values())]
+    lines += [(message_of(number, said), said) for number, said in enumerate(messages.values())]
+    placed = [(field_of(message, list(frames), said), said) for message, said in fields]
+    lines += sorted(placed, key=lambda line: line[0][:2])
+    try:
+        return accept(record for record, _ in lines)
+    except Refused as refused:
+        said = lines[refused.record][1]
+        name = said.get("name") or said["frame"]
+        raise Mistake(said.get(refused.part, name), refused.words) from None
+
+
+def filter_words(message: Message) -> str:
+    """A message's filter with its values in place, masks as patterns."""
+    words = FILTERS[message.filter]
+    for part, value in (("X1", message.x1), ("X2", message.x2)):
+        pattern = f"0x{value & 2**message.width - 1:X}"
+        words = words.replace(part, pattern if "&" in words else str(value))
+    return words
+
+
+def frame_words(frame: Frame) -> list[str]:
+    """A frame's line in pieces."""
+    size = counted(frame.length, "byte")
+    return ["frame", frame.name, size, ORDERS[frame.order], DIRECTIONS[frame.direction], TRIGGERS[frame.trigger]]
+
+
+def message_words(message: Message) -> list[str]:
+    """A message's line in pieces."""
+    more = [] if message.direction else [AGREEMENTS[message.agreement]]
+    more += [f"filter {filter_words(message)}"] if message.filter else []
+    more += [f"initial {message.initial}"] if message.initial else []
+    size = counted(message.width, "bit")
+    return ["message", message.name, size, SIGNS[message.sign], DIRECTIONS[message.direction], "  ".join(more)]
+
+
+def field_words(layout: Layout, field: Field) -> list[str]:
+    """A field's line in pieces."""
+    words = [f"  in {layout.frames[field.frame].name}", f"at {field.start}"]
+    return words + ([f"status {field.place}"] if field.present else [])
+
+
+def write(layout: Layout) -> str:
+    """The text of a layout, which parses to the same records."""
+    lines = aligned([frame_words(frame) for frame in layout.frames])
+    for message, line in zip(layout.messages, aligned([message_words(message) for message in layout.messages])):
+        lines += ["", line, *aligned([field_words(layout, field) for field in layout.fields_of(message)])]
+    return "".join(line + "\n" for line in lines)
+
+
+def listing(layout: Layout) -> str:
+    """What the listing program prints for a layout."""
+    lines = ["message frame start width status"]
+    for field in layout.fields:
+        width = layout.messages[field.message].width
+        status = field.place if field.present else "-"
+        lines.append(f"{field.message} {field.frame} {field.start} {width} {status}")
+    return "".join(line + "\n" for line in lines)

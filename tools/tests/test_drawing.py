@@ -1,0 +1,69 @@
+"""Pictures of frames against drawings made by hand and against the paper's packed bytes."""
+
+import unittest
+import xml.etree.ElementTree as xml
+from random import Random
+
+from mondgurt_layout import svg
+from mondgurt_layout.drawing import picture, rows
+from mondgurt_layout.records import Layout
+from mondgurt_layout.text import parse
+
+from .layouts import random_layout
+
+LITTLE = """\
+a: frame 0, 2 bytes, little order, received, time
+
+                    7   6   5   4   3   2   1   0
+byte 0       7..0  A4  A3  A2  A1  A0   .  A*   .
+byte 1      15..8   .   .   .  A9  A8  A7  A6  A5
+
+  A  m  10 bits  unsigned  little at 3  status 1
+"""
+BIG = """\
+a: frame 0, 2 bytes, big order, received, time
+
+                    7   6   5   4   3   2   1   0
+byte 0       0..7   .  A*   .  A9  A8  A7  A6  A5
+byte 1      8..15  A4  A3  A2  A1  A0   .   .   .
+
+  A  m  10 bits  unsigned  big at 3  status 1
+"""
+
+
+def ten_bits(order: str) -> Layout:
+    """Ten bits at start 3 with a status bit at 1."""
+    return parse(f"frame a 2 bytes {order}\nmessage m 10 bits\nin a at 3 status 1\n")
+
+
+def packed(layout: Layout, value: int) -> bytes:
+    """The bytes of frame 0 if its picture is right and its only message holds a value."""
+    raw = []
+    for row in rows(layout, layout.frames[0]):
+        bits = [value >> bit.bit & 1 if bit and bit.bit is not None else 0 for bit in row]
+        raw.append(int("".join(map(str, bits)), 2))
+    return bytes(raw)
+
+
+class Drawing(unittest.TestCase):
+    def test_by_hand(self) -> None:
+        for order, drawn in (("little", LITTLE), ("big", BIG)):
+            layout = ten_bits(order)
+            self.assertEqual(drawn, picture(layout, layout.frames[0]))
+
+    def test_p1_and_p3(self) -> None:
+        self.assertEqual(bytes.fromhex("28 15"), packed(ten_bits("little"), 677))
+        self.assertEqual(bytes.fromhex("15 28"), packed(ten_bits("big"), 677))
+
+    def test_svg(self) -> None:
+        random = Random(3)
+        for _ in range(20):
+            layout = random_layout(random)
+            root = xml.fromstring(svg.picture(layout, layout.frames, "a < b"))
+            words = [element.text for element in root.iter()]
+            self.assertIn("a < b", words)
+            self.assertEqual(sum(field.present for field in layout.fields), words.count("status"))
+
+
+if __name__ == "__main__":
+    unittest.main()

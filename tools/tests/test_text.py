@@ -1,0 +1,133 @@
+"""Layouts as text: round trips, defaults, and mistakes with their line and column."""
+
+import unittest
+from random import Random
+
+from mondgurt_layout.records import FILTERS, Field, Frame, Message
+from mondgurt_layout.text import Mistake, listing, parse, write
+from mondgurt_layout.verdict import read
+
+from .layouts import SAMPLES, file, random_layout
+
+FRAME = "frame a 2 bytes\n"
+MESSAGE = FRAME + "message m 10 bits\n"
+FIELD = MESSAGE + "  in a at 3\n"
+NINE = "".join(f"frame f{number} 2 bytes\n" for number in range(9))
+MANY = "".join(f"frame f{number} 32 bytes\n" for number in range(5)) + "".join(
+    f"message m{number} 1 bit\n" + "".join(f"in f{frame} at {number}\n" for frame in range(4)) for number in range(32)
+)
+
+# A text, and where and how it is wrong.
+MISTAKES = [
+    ("fram a 2 bytes", "1:1: expected `frame`, `message` or `in`, found `fram`"),
+    ("frame 2 bytes", "1:7: expected a name, found `2`"),
+    ("frame a", "1:8: expected a number, found the end of the line"),
+    ("frame a  # 2 bytes", "1:8: expected a number, found the end of the line"),
+    ("frame a 2 bits", "1:11: expected `bytes` or `byte`, found `bits`"),
+    ("frame a two bytes", "1:9: expected a number, found `two`"),
+    ("\n# why\n\tframe a 2 bytes big little", "3:22: the order is said twice"),
+    ("frame a 2 bytes middle", "1:17: expected `little`, `big`, `received`, `sent`, `time` or `event`, found `middle`"),
+    (FRAME + "frame a 3 bytes", "2:7: the name a is taken in line 1"),
+    (FIELD + "message m 1 bit", "4:9: the name m is taken in line 2"),
+    (FRAME + "in a at 3", "2:1: expected a message before its fields"),
+    (MESSAGE + "  in b at 3", "3:6: there is no frame b"),
+    (MESSAGE + "  in a on 3", "3:8: expected `at`, found `on`"),
+    (FRAME + "message m 10 bits pick one", "2:24: expected `any`, found `one`"),
+    (FRAME + "message m 10 bits filter new & 7 is 3", "2:34: expected `=`, `!=`, `unchanged` or `changed`, found `is`"),
+    (FRAME + "message m 10 bits filter 0 <= new", "2:34: expected `<=`, found the end of the line"),
+    (FRAME + "message m 10 bits filter true filter false", "2:31: the filter is said twice"),
+    (FRAME + "message m 10 bits initial 1 initial 1", "2:37: the initial is said twice"),
+    # ORDER
+    (FIELD + "  in a at 3", "4:6: the message has a field in this frame already"),
+    # RANGE
+    ("frame a 33 bytes", "1:9: length 33 is not 1 to 32"),
+    ("frame a 0 bytes", "1:9: length 0 is not 1 to 32"),
+    (FRAME + "message m 33 bits", "2:11: width 33 is not 1 to 32"),
+    (FRAME + "message m 10 bits signed initial 512", "2:34: initial 512 is not -512 to 511"),
+    (FRAME + "message m 10 bits signed initial 0x400", "2:34: initial 1024 is not -512 to 511"),
+    (FRAME + "message m 10 bits initial -1", "2:27: initial -1 is not 0 to 1023"),
+    (FRAME + "message m 4 bits filter 0 <= new <= 16", "2:37: x2 16 is not 0 to 15"),
+    (FRAME + "message m 4 bits filter new & 0x10 changed", "2:31: x1 16 is not 0 to 15"),
+    (FRAME + "message m 4 bits sent vote", "2:23: only a received message has an agreement, 0 to 2"),
+    ("\n".join(f"frame f{n} 1 byte" for n in range(33)), "33:7: there are at most 32 frames and 32 messages"),
+    # REF
+    ("frame a 2 bytes sent\nmessage m 10 bits\n  in a at 3", "3:6: m is received and a is sent"),
+    # GROUP
+    (NINE + "message m 1 bit\n" + "".join(f"in f{n} at 0\n" for n in range(9)), "19:4: m has 8 fields already"),
+    (MANY + "in f4 at 0", "166:4: there are 128 fields already"),
+    (
+        "frame b 2 bytes\n" + MESSAGE + "in b at 0 status 15\nin a at 0",
+        "5:4: m has a status bit in b, so it needs one here",
+    ),
+    (
+        "frame b 2 bytes\n" + MESSAGE + "in b at 0\nin a at 0 status 15",
+        "5:11: m has no status bit in b, so it can have none here",
+    ),
+    (
+        "frame a 2 bytes sent\nmessage m 10 bits sent filter new > old\n  in a at 3",
+        "3:6: m is sent through a filter, so it needs a status bit",
+    ),
+    # PLACE
+    (MESSAGE + "  in a at 7", "3:11: bit 16 is not in a, which has bits 0 to 15"),
+    (MESSAGE + "  in a at 3 status 16", "3:20: bit 16 is not in a, which has bits 0 to 15"),
+    (MESSAGE + "  in a at 3 status 1000", "3:20: bit 1000 is not in a, which has bits 0 to 15"),
+    (MESSAGE + "  in a at 3 status 12", "3:20: bit 12 of a is taken by m"),
+    (FIELD + "message n 4 bits\n  in a at 0", "5:11: bit 3 of a is taken by m"),
+    # NOFIELD
+    (MESSAGE, "2:9: m has no field"),
+]
+
+
+class Texts(unittest.TestCase):
+    def test_samples(self) -> None:
+        for name in ("paper", "brake", "largest"):
+            with self.subTest(name=name):
+                raw = (SAMPLES / f"{name}.layout").read_bytes()
+                self.assertEqual(raw, parse((SAMPLES / f"{name}.txt").read_text()).to_bytes())
+                self.assertEqual(raw, parse(write(read(raw))).to_bytes())
+
+    def test_random_layouts(self) -> None:
+        random = Random(2)
+        for _ in range(50):
+            layout = random_layout(random)
+            self.assertEqual(layout, parse(write(layout)))
+
+    def test_the_example_of_the_paper(self) -> None:
+        raw = (SAMPLES / "paper.layout").read_bytes()
+        self.assertEqual(file("01 00 02", "02 00 0A", "03 00 00 03"), raw)
+        self.assertEqual("message frame start width status\n0 0 3 10 -\n", listing(read(raw)))
+
+    def test_what_is_not_said(self) -> None:
+        layout = parse(FIELD)
+        self.assertEqual([Frame("a", 0, 2, order=0, direction=0, trigger=0)], layout.frames)
+        message = Message("m", 0, 10, sign=0, direction=0, agreement=0, filter=0, x1=0, x2=0, initial=0)
+        self.assertEqual([message], layout.messages)
+        self.assertEqual([Field(0, 0, 3, present=0, place=0)], layout.fields)
+
+    def test_any_order(self) -> None:
+        text = "message m 4 bits initial 5 sent signed filter new&0xC!=4\nin b at 0 status 7\nin a at 4 status 0\n"
+        layout = parse(text.replace("initial 5", "initial 0xD") + "frame a 1 byte sent\nframe b 1 byte event sent big")
+        self.assertEqual([Frame("a", 0, 1, 0, 1, 0), Frame("b", 1, 1, 1, 1, 1)], layout.frames)
+        self.assertEqual([Message("m", 0, 4, 1, 1, 0, 3, -4, 4, -3)], layout.messages)
+        self.assertEqual([Field(0, 0, 4, 1, 0), Field(0, 1, 0, 1, 7)], layout.fields)
+
+    def test_filters(self) -> None:
+        for number, words in enumerate(FILTERS):
+            for sign, value in (("unsigned", "0x3FF"), ("signed", "-512")):
+                with self.subTest(words=words, sign=sign):
+                    said = words.replace("X1", value).replace("X2", "3")
+                    layout = parse(FRAME + f"message m 10 bits {sign} filter {said}\nin a at 3")
+                    self.assertEqual(number, layout.messages[0].filter)
+                    self.assertEqual(layout, parse(write(layout)))
+
+    def test_mistakes(self) -> None:
+        for text, told in MISTAKES:
+            with self.subTest(told=told):
+                with self.assertRaises(Mistake) as caught:
+                    parse(text)
+                mistake = caught.exception
+                self.assertEqual(told, f"{mistake.line}:{mistake.column}: {mistake}")
+
+
+if __name__ == "__main__":
+    unittest.main()

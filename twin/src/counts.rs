@@ -1,0 +1,171 @@
+//! How often each thing was compared, so that a generator that misses something is noticed.
+
+use std::fmt;
+
+use crate::calls::{Call, NAMES};
+use crate::filter::passes;
+use crate::layout::Verdict;
+use crate::node::{Node, OK};
+
+/// The answers that each call can give, in the order of `Call::kind`.
+const ANSWERS: [&[usize]; 8] = [
+    &[0, 16, 17, 18],
+    &[0, 16, 17, 19],
+    &[0, 16, 17, 18, 23],
+    &[0, 16, 17],
+    &[0, 16],
+    &[0, 16, 17, 18],
+    &[0],
+    &[0, 16, 17, 20, 21, 22],
+];
+
+#[derive(Clone, Default)]
+pub struct Counts {
+    /// Files by verdict: accepted at 0, else at the refusal's number.
+    files: [u64; 8],
+    layouts: u64,
+    calls: u64,
+    calls_on_damaged: u64,
+    /// By call and answer.
+    answers: [[u64; 24]; 8],
+    /// By filter: values that did not pass, and that did.
+    filters: [[u64; 2]; 14],
+    /// Fields packed or delivered, by order, sign and width less one.
+    fields: [[[u64; 32]; 2]; 2],
+}
+
+impl Counts {
+    pub fn file(&mut self, verdict: &Verdict) {
+        match verdict {
+            Verdict::Accepted(_) => self.files[0] += 1,
+            Verdict::Refused { number, .. } => self.files[usize::from(*number)] += 1,
+        }
+    }
+
+    pub fn layout(&mut self) {
+        self.layouts += 1;
+    }
+
+    /// A call on a node as it was before, and its answer.
+    pub fn call(&mut self, node: &Node, call: &Call, answer: u8) {
+        self.calls += 1;
+        self.answers[call.kind()][usize::from(answer)] += 1;
+        match call {
+            _ if answer != OK => (),
+            Call::Send { message, value } => self.filter(node, *message as usize, *value),
+            Call::Assemble { frame, .. } | Call::Deliver { frame, .. } => {
+                self.fields_of(node, *frame as usize);
+            }
+            Call::Close => {
+                for number in 0..node.states.len() {
+                    if let Ok(value) = node.agreed(number) {
+                        self.filter(node, number, value);
+                    }
+                }
+            }
+            _ => (),
+        }
+    }
+
+    pub fn call_on_damaged(&mut self) {
+        self.calls_on_damaged += 1;
+    }
+
+    pub fn add(&mut self, mut other: Counts) {
+        for (count, more) in self.all().zip(other.all()) {
+            *count += *more;
+        }
+    }
+
+    fn all(&mut self) -> impl Iterator<Item = &mut u64> {
+        let of_calls = [
+            &mut self.layouts,
+            &mut self.calls,
+            &mut self.calls_on_damaged,
+        ];
+        let answers = self.answers.iter_mut().flatten();
+        let filters = self.filters.iter_mut().flatten();
+        let fields = self.fields.iter_mut().flatten().flatten();
+        let all = self.files.iter_mut().chain(of_calls);
+        all.chain(answers).chain(filters).chain(fields)
+    }
+
+    fn filter(&mut self, node: &Node, number: usize, value: i64) {
+        let message = &node.layout.messages[number];
+        let passed = passes(message, value, node.states[number].old);
+        self.filters[usize::from(message.filter)][usize::from(passed)] += 1;
+    }
+
+    fn fields_of(&mut self, node: &Node, number: usize) {
+        let big = usize::from(node.layout.frames[number].big);
+        for field in node.layout.fields_of_frame(number) {
+            let message = &node.layout.messages[field.message];
+            self.fields[big][usize::from(message.signed)][message.width - 1] += 1;
+        }
+    }
+
+    pub fn calls(&self) -> u64 {
+        self.calls
+    }
+
+    pub fn files(&self) -> u64 {
+        self.files.iter().sum()
+    }
+
+    /// The least count of what can occur in files, and in calls.
+    pub fn least(&self) -> (u64, u64) {
+        let files = self.files.iter().copied();
+        let answers = (0..8).flat_map(|kind| ANSWERS[kind].iter().map(move |&a| (kind, a)));
+        let answers = answers.map(|(kind, answer)| self.answers[kind][answer]);
+        let calls = answers.chain([self.least_filter(), self.least_field()]);
+        (files.min().unwrap_or(0), calls.min().unwrap_or(0))
+    }
+
+    /// Each filter passes some values and not others, but 0 passes all and 1 none.
+    fn least_filter(&self) -> u64 {
+        let both = self.filters[2..].iter().flatten().copied();
+        let all = both.chain([self.filters[0][1], self.filters[1][0]]);
+        all.min().unwrap_or(0)
+    }
+
+    fn least_field(&self) -> u64 {
+        let all = self.fields.iter().flatten().flatten();
+        all.copied().min().unwrap_or(0)
+    }
+}
+
+impl fmt::Display for Counts {
+    fn fmt(&self, f: &mut fmt::Formatter) -> fmt::Result {
+        let refused: Vec<String> = (1..8).map(|n| format!("{n}: {}", self.files[n])).collect();
+        writeln!(
+            f,
+            "{} files: accepted {}; refused {}",
+            self.files(),
+            self.files[0],
+            refused.join(", ")
+        )?;
+        writeln!(
+            f,
+            "{} calls on nodes of {} layouts, each in two orders",
+            self.calls, self.layouts
+        )?;
+        for kind in 0..8 {
+            let answers: Vec<String> = ANSWERS[kind]
+                .iter()
+                .map(|&answer| format!("{answer}: {}", self.answers[kind][answer]))
+                .collect();
+            writeln!(f, "  {:<10}  {}", NAMES[kind], answers.join(", "))?;
+        }
+        writeln!(
+            f,
+            "  each filter passed and not at least {} times; each width, sign and order at least {} times",
+            self.least_filter(),
+            self.least_field()
+        )?;
+        writeln!(
+            f,
+            "{} calls on damaged nodes kept to their memory",
+            self.calls_on_damaged
+        )
+    }
+}

@@ -1,0 +1,341 @@
+//! Generators of call sequences, and of other orders of their calls.
+
+use crate::bits;
+use crate::calls::Call;
+use crate::layout::Layout;
+use crate::node::Node;
+use crate::random::Random;
+
+/// The calls of several rounds on a node of the layout. Each ends with a closing, after which all
+/// messages are received or only some.
+pub fn script(random: &mut Random, layout: &Layout) -> Vec<Call> {
+    let mut writer = Writer {
+        node: Node::start(layout),
+        favourites: vec![[0; 2]; layout.messages.len()],
+        calls: Vec::new(),
+        random,
+    };
+    let longest = 10 + layout.frames.len() + layout.messages.len();
+    for _ in 0..writer.random.between(1, 6) {
+        writer.choose_favourites();
+        for _ in 0..writer.random.between(0, longest) {
+            writer.step();
+        }
+        writer.push(Call::Close);
+        if writer.random.once_in(2) {
+            writer.receive_each();
+        }
+    }
+    writer.calls
+}
+
+/// Writes calls and plays them, so that it knows what the node holds.
+struct Writer<'a> {
+    random: &'a mut Random,
+    node: Node<'a>,
+    /// For each message two values that this round's deliveries carry often, so that votes have a
+    /// winner or a tie.
+    favourites: Vec<[i64; 2]>,
+    calls: Vec<Call>,
+}
+
+impl Writer<'_> {
+    fn push(&mut self, call: Call) {
+        call.play(&mut self.node);
+        self.calls.push(call);
+    }
+
+    fn choose_favourites(&mut self) {
+        for message in 0..self.favourites.len() {
+            self.favourites[message] = [self.value(message), self.value(message)];
+        }
+    }
+
+    /// One call or a few, mostly in a direction that the layout has.
+    fn step(&mut self) {
+        let directions: Vec<bool> = self.node.layout.frames.iter().map(|f| f.sent).collect();
+        let any = self.random.once_in(2);
+        let sent = match self.random.pick(&directions) {
+            Some(sent) if !self.random.once_in(8) => sent,
+            _ => any,
+        };
+        match (sent, self.random.between(0, 15)) {
+            (true, 0..=3) => self.send(),
+            (true, 4..=6) => self.invalidate(),
+            (true, 7..=10) => self.assemble(),
+            (true, 11..=12) => self.consumed(),
+            (true, 13..=14) => self.read_flag(),
+            (true, _) => self.send_through(),
+            (false, 0..=11) => self.deliver(),
+            (false, _) => self.receive(),
+        }
+    }
+
+    fn send(&mut self) {
+        let message = self.message(true);
+        self.send_to(message);
+    }
+
+    fn send_to(&mut self, message: u64) {
+        let value = match message < self.node.states.len() as u64 {
+            true => self.value_or_outside(message as usize),
+            false => self.random.draw() as i64,
+        };
+        self.push(Call::Send { message, value });
+    }
+
+    fn invalidate(&mut self) {
+        let message = self.message(true);
+        self.push(Call::Invalidate { message });
+    }
+
+    fn assemble(&mut self) {
+        let frame = self.frame(true);
+        self.assemble_to(frame);
+    }
+
+    fn assemble_to(&mut self, frame: u64) {
+        let buffer = self.data(frame);
+        self.push(Call::Assemble { frame, buffer });
+    }
+
+    fn consumed(&mut self) {
+        let frame = self.frame(true);
+        self.push(Call::Consumed { frame });
+    }
+
+    fn read_flag(&mut self) {
+        let message = self.message(true);
+        self.read_flag_of(message);
+    }
+
+    fn read_flag_of(&mut self, message: u64) {
+        let place = self.random.byte(0, 255);
+        self.push(Call::ReadFlag { message, place });
+    }
+
+    /// A message is sent and its frames go out, sometimes with a step left out or a second send
+    /// between, and its flag is read.
+    fn send_through(&mut self) {
+        let message = self.message(true);
+        let fields = self.node.layout.fields.iter();
+        let frames: Vec<u64> = fields
+            .filter(|field| field.message as u64 == message)
+            .map(|field| field.frame as u64)
+            .collect();
+        self.send_to(message);
+        for &frame in &frames {
+            if !self.random.once_in(8) {
+                self.assemble_to(frame);
+            }
+        }
+        if self.random.once_in(4) {
+            self.send_to(message);
+        }
+        for &frame in &frames {
+            if self.random.once_in(4) {
+                self.read_flag_of(message);
+            }
+            if !self.random.once_in(8) {
+                self.push(Call::Consumed { frame });
+            }
+        }
+        self.read_flag_of(message);
+    }
+
+    fn deliver(&mut self) {
+        let frame = self.frame(false);
+        let mut data = self.data(frame);
+        let layout = self.node.layout;
+        for field in layout.fields.iter() {
+            let carrier = &layout.frames[field.frame];
+            if field.frame as u64 != frame || carrier.length != data.len() {
+                continue;
+            }
+            let [one, other] = self.favourites[field.message];
+            let any = self.value(field.message);
+            let value = self.random.pick(&[one, one, one, other, other, any]);
+            bits::pack(layout, field, value.unwrap_or(any), &mut data);
+            if let Some(place) = field.status {
+                bits::set_bit(carrier, &mut data, place, !self.random.once_in(4));
+            }
+        }
+        let valid = match self.random.once_in(8) {
+            true => 0,
+            false => self.random.pick(&[1, 1, 2, 128, 255]).unwrap_or(1),
+        };
+        self.push(Call::Deliver { frame, valid, data });
+    }
+
+    fn receive(&mut self) {
+        let message = self.message(false);
+        self.receive_from(message);
+    }
+
+    fn receive_from(&mut self, message: u64) {
+        let place = self.random.draw() as i64;
+        self.push(Call::Receive { message, place });
+    }
+
+    fn receive_each(&mut self) {
+        for number in 0..self.node.states.len() {
+            if !self.node.layout.messages[number].sent {
+                self.receive_from(number as u64);
+            }
+        }
+    }
+
+    fn message(&mut self, sent: bool) -> u64 {
+        let directions: Vec<bool> = self.node.layout.messages.iter().map(|m| m.sent).collect();
+        self.number(&directions, sent)
+    }
+
+    fn frame(&mut self, sent: bool) -> u64 {
+        let directions: Vec<bool> = self.node.layout.frames.iter().map(|f| f.sent).collect();
+        self.number(&directions, sent)
+    }
+
+    /// A number of this direction; now and then one of the other, or one not in the layout.
+    fn number(&mut self, directions: &[bool], sent: bool) -> u64 {
+        let sent = sent != self.random.once_in(16);
+        let of_direction = |&number: &usize| directions[number] == sent;
+        let numbers: Vec<usize> = match self.random.once_in(16) {
+            true => Vec::new(),
+            false => (0..directions.len()).filter(of_direction).collect(),
+        };
+        match self.random.pick(&numbers) {
+            Some(number) => number as u64,
+            None => self.absent(directions.len() as u64),
+        }
+    }
+
+    /// A number from the count on: next to it, or one that is below it if cut to fewer bits.
+    fn absent(&mut self, count: u64) -> u64 {
+        let low = self.random.draw() % count.max(1);
+        let bit = 1 << self.random.between(5, 63);
+        let any = self.random.draw();
+        let numbers = [count, count + 1, 32, 255, bit + low, u64::MAX - low, any];
+        self.random.pick(&numbers).unwrap_or(any).max(count)
+    }
+
+    /// Data or a buffer for the frame, now and then not of its length.
+    fn data(&mut self, frame: u64) -> Vec<u8> {
+        let frame = usize::try_from(frame).ok();
+        let frame = frame.and_then(|number| self.node.layout.frames.get(number));
+        let right = frame.map_or(self.random.between(1, 32), |frame| frame.length);
+        let length = match self.random.between(0, 255) {
+            0..=11 => self
+                .random
+                .pick(&[0, right - 1, right + 1, 32, 33, 256 + right]),
+            12 => Some(65536 + right),
+            _ => None,
+        };
+        let length = length.unwrap_or(right);
+        match self.random.between(0, 3) {
+            0 => vec![0; length],
+            1 => vec![255; length],
+            _ => (0..length).map(|_| self.random.byte(0, 255)).collect(),
+        }
+    }
+
+    /// A value of the message: often one at an edge of its range or of its filter.
+    fn value(&mut self, message: usize) -> i64 {
+        let state = &self.node.states[message];
+        let message = &self.node.layout.messages[message];
+        let (least, most) = bits::range(message).into_inner();
+        let (x1, x2) = (message.x1, message.x2);
+        let any = least + self.random.between(0, (most - least) as usize) as i64;
+        // The bits under the mask from one pattern, the others from any.
+        let masked = |pattern: u32| bits::value(message, pattern & x1 | bits::pattern(any) & !x1);
+        let values = [
+            any,
+            any,
+            least,
+            most,
+            0,
+            state.old,
+            state.held,
+            bits::value(message, x1),
+            bits::value(message, x2),
+            masked(x2),
+            masked(bits::pattern(state.old)),
+        ];
+        let value = self.random.pick(&values).unwrap_or(any);
+        let beside = self.random.pick(&[-1, 0, 0, 0, 1]).unwrap_or(0);
+        (value + beside).clamp(least, most)
+    }
+
+    /// A value of the message, now and then one outside its range.
+    fn value_or_outside(&mut self, message: usize) -> i64 {
+        let value = self.value(message);
+        if !self.random.once_in(8) {
+            return value;
+        }
+        let message = &self.node.layout.messages[message];
+        let (least, most) = bits::range(message).into_inner();
+        let values = [
+            least - 1,
+            most + 1,
+            i64::MIN,
+            i64::MAX,
+            value + (1 << message.width),
+            value - (1 << message.width),
+            value + (1 << 32),
+            value - (1 << 32),
+            self.random.draw() as i64,
+        ];
+        self.random.pick(&values).unwrap_or(value)
+    }
+}
+
+/// Another order of the calls, as their places in the first: closings stay, and so does the order
+/// of calls that name the same message, the same frame, or a frame and a message that it carries.
+pub fn other_order(random: &mut Random, layout: &Layout, calls: &[Call]) -> Vec<usize> {
+    let mut order = Vec::new();
+    let mut round = Vec::new();
+    for (place, call) in calls.iter().enumerate() {
+        if *call == Call::Close {
+            order.extend(shuffled(random, layout, calls, &round));
+            order.push(place);
+            round.clear();
+        } else {
+            round.push(place);
+        }
+    }
+    order.extend(shuffled(random, layout, calls, &round));
+    order
+}
+
+/// Each time any of the calls that are left comes next, or the first that must come before it.
+fn shuffled(random: &mut Random, layout: &Layout, calls: &[Call], round: &[usize]) -> Vec<usize> {
+    let mut left = round.to_vec();
+    let mut order = Vec::new();
+    while !left.is_empty() {
+        let mut next = random.between(0, left.len() - 1);
+        let before = |next: usize| {
+            let call = &calls[left[next]];
+            (0..next).find(|&earlier| tied(layout, &calls[left[earlier]], call))
+        };
+        while let Some(earlier) = before(next) {
+            next = earlier;
+        }
+        order.push(left.remove(next));
+    }
+    order
+}
+
+/// Must these two keep their order?
+fn tied(layout: &Layout, one: &Call, other: &Call) -> bool {
+    let same = |one: Option<u64>, other: Option<u64>| one.is_some() && one == other;
+    let carries = |frame: Option<u64>, message: Option<u64>| match (frame, message) {
+        (Some(frame), Some(message)) => layout
+            .fields
+            .iter()
+            .any(|field| (field.frame as u64, field.message as u64) == (frame, message)),
+        _ => false,
+    };
+    same(one.message(), other.message())
+        || same(one.frame(), other.frame())
+        || carries(one.frame(), other.message())
+        || carries(other.frame(), one.message())
+}

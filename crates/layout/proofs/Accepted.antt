@@ -9,25 +9,14 @@ use Prim.Native.Nat.{ℕ, zero, suc, _+_, _-_, _*_, _/_, _<_, _≤_}
 use native.Mathlib.Nat.{not-suc-le-zero}
 use native.Mathlib.Omega.{arith}
 use lib.ListN.{length}
-use Rattle.layout.specs.Records.{byteAt, isField, frameAt, messageAt, fieldAt}
-use Rattle.layout.specs.Verdict.{
-  sizeFault,
-  rangeFault,
-  isFieldOf,
-  fieldsOf,
-  fails,
-  noField,
-  complete,
-  failsAt,
-  refusalAt,
-  judged,
-  verdict,
-}
+use Rattle.record.specs.Records.{byteAt, isField, frameAt, messageAt, fieldAt}
+use Rattle.record.specs.Ranges.{rangeFault}
+use Rattle.record.specs.declared.Field.{Field}
+use Rattle.record.proofs.Tests.{to-last, bounded, meanings}
+use Rattle.layout.specs.Verdict.{sizeFault, isFieldOf, fieldsOf, fails, noField, complete, failsAt, refusalAt, judged, verdict}
 use Rattle.layout.specs.WellLaid.{FrameRecord, MessageRecord, FieldRecord, Below, theField, itsMessage, itsFrame, WellLaid}
 use Rattle.layout.specs.declared.Counts.{Counts}
-use Rattle.layout.specs.declared.Field.{Field}
 use Rattle.layout.specs.declared.Verdict.{Verdict}
-use Rattle.layout.proofs.Tests.{to-last, bounded, meanings}
 use Rattle.layout.proofs.Tallies.{tally-none, tally-most}
 use Rattle.layout.proofs.Sorted.{
   Kinds,

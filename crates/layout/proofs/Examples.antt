@@ -5,23 +5,18 @@ use mathlib.Core.List.{List, [], _∷_, _++_, map}
 use Prim.Native.Nat.{ℕ, zero, suc, _-_}
 use lib.ListN.{length, replicate}
 use Rattle.packing.specs.Values.{isWidth, extend, extended}
-use Rattle.layout.specs.Numbers.{tally, anyBelow, leastBelow}
-use Rattle.layout.specs.Records.{byteAt, wordAt, isFrame, isMessage, isField, frameAt, messageAt, fieldAt, countsBefore}
+use Rattle.record.specs.Numbers.{tally, anyBelow, leastBelow}
+use Rattle.record.specs.Records.{byteAt, wordAt, isFrame, isMessage, isField, frameAt, messageAt, fieldAt, pairBelow}
+use Rattle.record.specs.Ranges.{wordFault, faultOf, rangeFaultAt, rangeFault}
+use Rattle.record.specs.Runs.{pastEnd, meet, clash}
+use Rattle.layout.specs.Counts.{countsBefore}
 use Rattle.layout.specs.Verdict.{
   sizeFault,
-  pairBelow,
   orderFault,
-  wordFault,
-  faultOf,
-  rangeFaultAt,
-  rangeFault,
   refFault,
   isFieldOf,
   unlike,
   groupFault,
-  pastEnd,
-  meet,
-  clash,
   clashAt,
   placeFault,
   fails,

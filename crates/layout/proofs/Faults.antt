@@ -1,5 +1,5 @@
 -- Each test of a record in the paper's words: what it says that the test is clear, in both directions. The tests are read by the rules of
--- proofs/Tests.antt, and the parts of what they say are put into the records of specs/WellLaid.antt by search.
+-- record/proofs/Tests.antt, and the parts of what they say are put into the records of specs/WellLaid.antt by search.
 -- Assumes nothing.
 use mathlib.Core.Path.{_≡_, refl, ap}
 use mathlib.Core.Bool.{Bool, true, false, not, _&&_}
@@ -12,32 +12,17 @@ use lib.Dec.{eqb, ltb}
 use lib.ListN.{length, getD}
 use lib.Seq.{getD-set-other}
 use borrow.Author.Tests.{ne-eqb}
-use Rattle.layout.specs.Records.{byteAt, isFrame, isMessage, isField, frameAt, messageAt, fieldAt, frameNumbered, messageNumbered}
-use Rattle.layout.specs.Verdict.{
-  pairBelow,
-  orderFault,
-  wordFault,
-  frameFaults,
-  messageFaults,
-  fieldFaults,
-  faultOf,
-  rangeFaultAt,
-  rangeFault,
-  refFault,
-  isFieldOf,
-  fieldsOf,
-  unlike,
-  groupFault,
-  clash,
-  clashAt,
-  placeFault,
-}
+use Rattle.record.specs.Records.{byteAt, isFrame, isMessage, isField, frameAt, messageAt, fieldAt, pairBelow}
+use Rattle.record.specs.Ranges.{wordFault, frameFaults, messageFaults, fieldFaults, faultOf, rangeFaultAt, rangeFault}
+use Rattle.record.specs.Runs.{clash}
+use Rattle.record.specs.declared.Frame.{Frame}
+use Rattle.record.specs.declared.Message.{Message}
+use Rattle.record.specs.declared.Field.{Field}
+use Rattle.record.proofs.Tests.{or-holds, meanings, Clear, list-clear}
+use Rattle.layout.specs.Counts.{frameNumbered, messageNumbered}
+use Rattle.layout.specs.Verdict.{orderFault, refFault, isFieldOf, fieldsOf, unlike, groupFault, clashAt, placeFault}
 use Rattle.layout.specs.WellLaid.{ZeroFrom, FrameRecord, Word, MessageRecord, UsesForMessage, UsesForStatus, Uses, Below}
 use Rattle.layout.specs.declared.Counts.{Counts}
-use Rattle.layout.specs.declared.Frame.{Frame}
-use Rattle.layout.specs.declared.Message.{Message}
-use Rattle.layout.specs.declared.Field.{Field}
-use Rattle.layout.proofs.Tests.{or-holds, meanings, Clear, list-clear}
 use Rattle.layout.proofs.Runs.{inside-clear, once-clear, clash-clear}
 use Rattle.layout.proofs.Sorted.{Rises}
 

@@ -1,12 +1,9 @@
 pub mod Accepted
-pub mod Arms
 pub mod Examples
 pub mod Faults
 pub mod Node
 pub mod Reading
 pub mod Refused
 pub mod Runs
-pub mod Searches
 pub mod Sorted
 pub mod Tallies
-pub mod Tests

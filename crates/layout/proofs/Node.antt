@@ -13,13 +13,13 @@ use native.Mathlib.Decide.{decLt}
 use lib.Dec.{eqb}
 use borrow.Author.Tests.{le-leb}
 use Rattle.packing.specs.Places.{placeOf, frameBit, bitPlaces, places, inFrame, placesIn, Inside, Apart, Disjoint}
-use Rattle.layout.specs.Verdict.{messageRun, statusRun}
+use Rattle.record.specs.Runs.{messageRun, statusRun}
+use Rattle.record.specs.declared.Frame.{Frame}
+use Rattle.record.specs.declared.Message.{Message}
+use Rattle.record.specs.declared.Field.{Field}
+use Rattle.record.specs.declared.Run.{Run}
+use Rattle.record.proofs.Tests.{bounded}
 use Rattle.layout.specs.WellLaid.{UsesForStatus, Uses, Below, theField, itsMessage, itsFrame, WellLaid}
-use Rattle.layout.specs.declared.Frame.{Frame}
-use Rattle.layout.specs.declared.Message.{Message}
-use Rattle.layout.specs.declared.Field.{Field}
-use Rattle.layout.specs.declared.Run.{Run}
-use Rattle.layout.proofs.Tests.{bounded}
 use Rattle.layout.proofs.Runs.{On, on-status}
 
 -- ---- the places of a run

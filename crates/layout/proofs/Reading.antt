@@ -11,16 +11,17 @@ use native.Mathlib.Numerals.{add-one}
 use native.Mathlib.Omega.{arith}
 use lib.Dec.{leb}
 use borrow.Author.Tests.{leb-true}
-use Rattle.layout.specs.Numbers.{within, tally, anyBelow}
-use Rattle.layout.specs.Records.{byteAt, isFrame, isMessage, isField, recordAt, countsBefore, countedBy}
+use Rattle.record.specs.Numbers.{within, tally, anyBelow}
+use Rattle.record.specs.Records.{byteAt, isFrame, isMessage, isField, recordAt}
+use Rattle.record.specs.declared.Record.{Record}
+use Rattle.record.proofs.Searches.{Found, found}
+use Rattle.record.proofs.Tests.{and-holds}
+use Rattle.layout.specs.Counts.{countsBefore, countedBy}
 use Rattle.layout.specs.Verdict.{orderFault, fails, readAt, failsAt, refusalAt, judged}
-use Rattle.layout.specs.declared.Record.{Record}
 use Rattle.layout.specs.declared.Counts.{Counts}
 use Rattle.layout.specs.declared.Read.{Read}
 use Rattle.layout.specs.declared.Verdict.{Verdict}
-use Rattle.layout.proofs.Searches.{Found, found}
 use Rattle.layout.proofs.Tallies.{tally-within}
-use Rattle.layout.proofs.Tests.{and-holds}
 
 -- ---- what a reading says of the tests
 

@@ -7,12 +7,14 @@ use mathlib.Core.List.{List, [], _∷_}
 use mathlib.Core.Logic.{_↔_, _⊎_, inl, inr, ⊎-elim, ⊎-map}
 use Prim.Native.Nat.{ℕ, _+_, _<_, _≤_}
 use native.Mathlib.Omega.{arith}
-use Rattle.layout.specs.Numbers.{anyBelow, leastBelow, oneOf, firstOf}
-use Rattle.layout.specs.Records.{countsBefore}
+use Rattle.record.specs.Numbers.{anyBelow, leastBelow, oneOf, firstOf}
+use Rattle.record.specs.Ranges.{rangeFault}
+use Rattle.record.proofs.Searches.{Least, least-below, least}
+use Rattle.record.proofs.Tests.{any-clear, meanings}
+use Rattle.layout.specs.Counts.{countsBefore}
 use Rattle.layout.specs.Verdict.{
   sizeFault,
   orderFault,
-  rangeFault,
   refFault,
   groupFault,
   placeFault,
@@ -28,8 +30,6 @@ use Rattle.layout.specs.Verdict.{
 use Rattle.layout.specs.Refusals.{Passes, Fails, records, totals, AllPass, Lacking, Refusal}
 use Rattle.layout.specs.declared.Counts.{Counts}
 use Rattle.layout.specs.declared.Verdict.{Verdict}
-use Rattle.layout.proofs.Searches.{Least, least-below, least}
-use Rattle.layout.proofs.Tests.{any-clear, meanings}
 use Rattle.layout.proofs.Sorted.{parted}
 use Rattle.layout.proofs.Faults.{order-clear}
 

@@ -6,12 +6,12 @@ use mathlib.Core.Logic.{_↔_, Iff·rfl, inl, inr, ⊎-elim}
 use Prim.Native.Nat.{ℕ, _+_, _-_, _*_, _<_, _≤_, max}
 use native.Mathlib.Omega.{arith}
 use native.Mathlib.Decide.{decLt}
-use Rattle.layout.specs.Verdict.{messageRun, statusRun, pastEnd, meet, clash}
+use Rattle.record.specs.Runs.{messageRun, statusRun, pastEnd, meet, clash}
+use Rattle.record.specs.declared.Field.{Field}
+use Rattle.record.specs.declared.Message.{Message}
+use Rattle.record.specs.declared.Run.{Run}
+use Rattle.record.proofs.Tests.{meanings}
 use Rattle.layout.specs.WellLaid.{UsesForMessage, UsesForStatus, Uses}
-use Rattle.layout.specs.declared.Field.{Field}
-use Rattle.layout.specs.declared.Message.{Message}
-use Rattle.layout.specs.declared.Run.{Run}
-use Rattle.layout.proofs.Tests.{meanings}
 
 -- bit b is one of the run's
 abbrev pub On : Run → ℕ → Type 0

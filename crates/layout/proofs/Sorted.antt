@@ -10,10 +10,11 @@ use native.Mathlib.Nat.{zero-add}
 use native.Mathlib.Omega.{arith}
 use native.Mathlib.Decide.{decLt}
 use lib.Dec.{eqb}
-use Rattle.layout.specs.Numbers.{tally}
-use Rattle.layout.specs.Records.{byteAt, isFrame, isMessage, isField, countsBefore}
+use Rattle.record.specs.Numbers.{tally}
+use Rattle.record.specs.Records.{byteAt, isFrame, isMessage, isField}
+use Rattle.record.proofs.Tests.{to-last}
+use Rattle.layout.specs.Counts.{countsBefore}
 use Rattle.layout.specs.declared.Counts.{Counts}
-use Rattle.layout.proofs.Tests.{to-last}
 use Rattle.layout.proofs.Tallies.{tally-run, sums}
 
 -- F frames, then M messages, then D fields

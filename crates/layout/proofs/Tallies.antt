@@ -7,8 +7,8 @@ use Prim.Native.Nat.{ℕ, zero, suc, _+_, _*_, _<_, _≤_}
 use native.Mathlib.Nat.{add-zero, add-suc, zero-add, mul-one, mul-zero}
 use native.Mathlib.Numerals.{add-one}
 use native.Mathlib.Omega.{arith}
-use Rattle.layout.specs.Numbers.{tally}
-use Rattle.layout.proofs.Tests.{to-last}
+use Rattle.record.specs.Numbers.{tally}
+use Rattle.record.proofs.Tests.{to-last}
 
 -- where the test says the same of all d numbers from a on
 pub tally-run : (p : ℕ → Bool) (b : Bool) (a d : ℕ) → ((k : ℕ) → k < d → p (a + k) ≡ b) → tally p (a + d) ≡ tally p a + d * cond b 1 0

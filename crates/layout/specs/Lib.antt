@@ -1,5 +1,4 @@
-pub mod Numbers
-pub mod Records
+pub mod Counts
 pub mod Refusals
 pub mod Verdict
 pub mod WellLaid

@@ -6,8 +6,9 @@ use mathlib.Core.Bool.{true, false}
 use mathlib.Core.List.{List}
 use Prim.Native.Nat.{ℕ, _+_, _/_, _<_, _≤_}
 use lib.ListN.{length}
-use Rattle.layout.specs.Records.{countsBefore}
-use Rattle.layout.specs.Verdict.{sizeFault, orderFault, rangeFault, refFault, fieldsOf, groupFault, placeFault}
+use Rattle.record.specs.Ranges.{rangeFault}
+use Rattle.layout.specs.Counts.{countsBefore}
+use Rattle.layout.specs.Verdict.{sizeFault, orderFault, refFault, fieldsOf, groupFault, placeFault}
 use Rattle.layout.specs.declared.Counts.{Counts}
 
 -- record i passes its tests; c counts the records before it

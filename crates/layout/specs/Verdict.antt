@@ -1,30 +1,18 @@
 -- What each layout refusal says, and the verdict on a file. Each refusal is a list of faults, one for each clause of the paper's table, in its
--- order. Of record i, c counts the records before it.
+-- order; RANGE looks at one record only, and stands in record/specs/Ranges.antt. Of record i, c counts the records before it.
 -- Assumes nothing.
-use mathlib.Core.Bool.{Bool, true, false, not, cond, _&&_, _||_}
+use mathlib.Core.Bool.{Bool, not, cond, _&&_}
 use mathlib.Core.List.{List, [], _∷_}
-use Prim.Native.Nat.{ℕ, _+_, _-_, _*_, _/_, _%_}
+use Prim.Native.Nat.{ℕ, _+_, _-_, _/_, _%_}
 use lib.Dec.{eqb, ltb, leb}
-use lib.ListN.{length, getD}
-use Rattle.packing.specs.Values.{extended}
-use Rattle.layout.specs.Numbers.{within, tally, anyBelow, leastBelow, oneOf, firstOf}
-use Rattle.layout.specs.Records.{
-  byteAt,
-  isFrame,
-  isMessage,
-  isField,
-  frameAt,
-  messageAt,
-  fieldAt,
-  recordAt,
-  countsBefore,
-  frameNumbered,
-  messageNumbered,
-}
-use Rattle.layout.specs.declared.Frame.{Frame}
-use Rattle.layout.specs.declared.Message.{Message}
-use Rattle.layout.specs.declared.Field.{Field}
-use Rattle.layout.specs.declared.Run.{Run}
+use lib.ListN.{length}
+use Rattle.record.specs.Numbers.{within, tally, anyBelow, leastBelow, oneOf, firstOf}
+use Rattle.record.specs.Records.{byteAt, isFrame, isMessage, isField, fieldAt, recordAt, pairBelow}
+use Rattle.record.specs.Ranges.{rangeFault}
+use Rattle.record.specs.Runs.{messageRun, statusRun, pastEnd, meet, clash}
+use Rattle.record.specs.declared.Message.{Message}
+use Rattle.record.specs.declared.Field.{Field}
+use Rattle.layout.specs.Counts.{countsBefore, frameNumbered, messageNumbered}
 use Rattle.layout.specs.declared.Counts.{Counts}
 use Rattle.layout.specs.declared.Read.{Read}
 use Rattle.layout.specs.declared.Verdict.{Verdict}
@@ -37,10 +25,6 @@ sizeFault s = oneOf (not (eqb (length s % 24) 0) ∷ ltb 4608 (length s) ∷ [])
 
 -- ---- 2 ORDER
 
--- the (message, frame) pair of p is below that of r
-unfoldable pub pairBelow : Field → Field → Bool
-pairBelow p r = ltb (p .message) (r .message) || (eqb (p .message) (r .message) && ltb (p .frame) (r .frame))
-
 -- kind not 1..3, or below the kind before; frame number, message number not the next from 0; a field's pair not above the field's before it
 unfoldable pub orderFault : List ℕ → ℕ → Counts → Bool
 orderFault s i c =
@@ -51,57 +35,6 @@ orderFault s i c =
     ∷ (isMessage s i && not (eqb (byteAt s i 1) (c .messages)))
     ∷ (ltb 0 i && (isField s (i - 1) && (isField s i && not (pairBelow (fieldAt s (i - 1)) (fieldAt s i)))))
     ∷ [])
-
--- ---- 3 RANGE: what is wrong at each byte of a record, 0 to 23; what is wrong with a word stands at its first byte
-
--- x1 serves filters 2, 3, 6, 7, 8, 9, and x2 serves 2, 3, 8, 9
-abbrev pub usesX1 : ℕ → Bool
-usesX1 filter = within 2 3 filter || within 6 9 filter
-
-abbrev pub usesX2 : ℕ → Bool
-usesX2 filter = within 2 3 filter || within 8 9 filter
-
--- a word of a message is not extended from the width, or is not zero where it is not used
-unfoldable pub wordFault : Message → Bool → ℕ → Bool
-wordFault g used x = not (extended (eqb (g .sign) 1) (g .width) x) || (not used && not (eqb x 0))
-
--- a frame's bytes 0 to 5: kind, number, length, order, direction, trigger
-abbrev pub frameFaults : Frame → List Bool
-frameFaults h = false ∷ ltb 31 (h .number) ∷ not (within 1 32 (h .length)) ∷ ltb 1 (h .order) ∷ ltb 1 (h .direction) ∷ ltb 1 (h .trigger) ∷ []
-
--- a message's bytes 0 to 19: kind, number, width, sign, direction, agreement, filter, one not named, and the words x1, x2 and initial value
-abbrev pub messageFaults : Message → Bool → List Bool
-messageFaults g other =
-    false
-    ∷ ltb 31 (g .number)
-    ∷ not (within 1 32 (g .width))
-    ∷ ltb 1 (g .sign)
-    ∷ ltb 1 (g .direction)
-    ∷ (ltb 2 (g .agreement) || (eqb (g .direction) 1 && not (eqb (g .agreement) 0)))
-    ∷ ltb 13 (g .filter)
-    ∷ other
-    ∷ wordFault g (usesX1 (g .filter)) (g .x1) ∷ false ∷ false ∷ false
-    ∷ wordFault g (usesX2 (g .filter)) (g .x2) ∷ false ∷ false ∷ false
-    ∷ wordFault g true (g .initial) ∷ false ∷ false ∷ false
-    ∷ []
-
--- a field's bytes 0 to 5: kind, message, frame and start bit, which have no range, status bit present, and its place, 0 if absent
-abbrev pub fieldFaults : Field → List Bool
-fieldFaults r = false ∷ false ∷ false ∷ false ∷ ltb 1 (r .status) ∷ (eqb (r .status) 0 && not (eqb (r .place) 0)) ∷ []
-
--- by the record's kind; `other` is the fault of a byte that is not named
-unfoldable pub faultOf : ℕ → Frame → Message → Field → ℕ → Bool → Bool
-faultOf kind h g r k other =
-    cond (eqb kind 1) (getD (frameFaults h) k other)
-    (cond (eqb kind 2) (getD (messageFaults g other) k other) (getD (fieldFaults r) k other))
-
--- byte k of record i is outside its range, or not named and not zero
-unfoldable pub rangeFaultAt : List ℕ → ℕ → ℕ → Bool
-rangeFaultAt s i k = faultOf (byteAt s i 0) (frameAt s i) (messageAt s i) (fieldAt s i) k (not (eqb (byteAt s i k) 0))
-
--- a byte or word is outside its range
-unfoldable pub rangeFault : List ℕ → ℕ → Bool
-rangeFault s i = anyBelow (rangeFaultAt s i) 24
 
 -- ---- 4 REF, of a field record
 
@@ -146,31 +79,6 @@ groupFault s i c =
     ∷ [])
 
 -- ---- 6 PLACE, of a field record
-
--- the frame bits of a field's message bits, and of its status bit: a run of width 0 where it is absent
-abbrev pub messageRun : Message → Field → Run
-messageRun g r = record { start = r .start; width = g .width }
-
-abbrev pub statusRun : Field → Run
-statusRun r = record { start = r .place; width = r .status }
-
--- a bit of the run lies past the end of a frame of n bytes
-unfoldable pub pastEnd : ℕ → Run → Bool
-pastEnd n a = ltb 0 (a .width) && ltb (n * 8) (a .start + a .width)
-
--- two runs have a bit in common
-unfoldable pub meet : Run → Run → Bool
-meet a b = ltb 0 (a .width) && (ltb 0 (b .width) && (ltb (a .start) (b .start + b .width) && ltb (b .start) (a .start + a .width)))
-
--- two fields, r of message g and q of message e, have a bit in common
-unfoldable pub clash : Message → Field → Message → Field → Bool
-clash g r e q =
-    oneOf
-    (meet (messageRun g r) (messageRun e q)
-    ∷ meet (messageRun g r) (statusRun q)
-    ∷ meet (statusRun r) (messageRun e q)
-    ∷ meet (statusRun r) (statusRun q)
-    ∷ [])
 
 -- record k is a field of r's frame that has a bit in common with r
 unfoldable pub clashAt : List ℕ → Counts → Message → Field → ℕ → Bool

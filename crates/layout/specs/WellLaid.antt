@@ -9,11 +9,12 @@ use Prim.Native.Nat.{ℕ, _+_, _*_, _<_, _≤_}
 use lib.Dec.{eqb}
 use lib.ListN.{length}
 use Rattle.packing.specs.Values.{extended}
-use Rattle.layout.specs.Records.{byteAt, frameAt, messageAt, fieldAt}
-use Rattle.layout.specs.Verdict.{usesX1, usesX2, fieldsOf}
-use Rattle.layout.specs.declared.Frame.{Frame}
-use Rattle.layout.specs.declared.Message.{Message}
-use Rattle.layout.specs.declared.Field.{Field}
+use Rattle.record.specs.Records.{byteAt, frameAt, messageAt, fieldAt}
+use Rattle.record.specs.Ranges.{usesX1, usesX2}
+use Rattle.record.specs.declared.Frame.{Frame}
+use Rattle.record.specs.declared.Message.{Message}
+use Rattle.record.specs.declared.Field.{Field}
+use Rattle.layout.specs.Verdict.{fieldsOf}
 
 -- bytes a to 23 of record i are zero
 abbrev pub ZeroFrom : ℕ → List ℕ → ℕ → Type 0

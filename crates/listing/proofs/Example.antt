@@ -3,7 +3,7 @@
 use mathlib.Core.Path.{_≡_}
 use mathlib.Core.List.{List, [], _∷_, _++_}
 use Prim.Native.Nat.{ℕ}
-use Rattle.layout.specs.Records.{byteAt, messageAt, fieldAt}
+use Rattle.record.specs.Records.{byteAt, messageAt, fieldAt}
 use Rattle.layout.proofs.Examples.{filled, paper, paper-accepted}
 use Rattle.listing.specs.Text.{digits, statusText, lineOf, lineAt, lines, heading, listing}
 

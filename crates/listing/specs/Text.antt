@@ -4,9 +4,9 @@ use mathlib.Core.Bool.{cond}
 use mathlib.Core.List.{List, [], _∷_, _++_}
 use Prim.Native.Nat.{ℕ, zero, suc, _+_, _/_, _%_}
 use lib.Dec.{eqb, ltb}
-use Rattle.layout.specs.Records.{messageAt, fieldAt}
+use Rattle.record.specs.Records.{messageAt, fieldAt}
+use Rattle.record.specs.declared.Field.{Field}
 use Rattle.layout.specs.Verdict.{verdict}
-use Rattle.layout.specs.declared.Field.{Field}
 use Rattle.layout.specs.declared.Verdict.{Verdict}
 
 -- a number in decimal: its last digit after those of a tenth of it; the first number only counts the digits down

@@ -4,8 +4,8 @@ ghost use Prim.Native.Nat.{_+_, _*_, _<_, _≤_};
 ghost use lib.ListN.{length};
 ghost use Rattle.listing.specs.Text.{decimal, space, statusText, lineOf, lineAt, lines, refusalText, listing};
 ghost use Rattle.listing.specs.Put.{Put};
-use layout::Field;
 use layout::Verdict;
+use record::Field;
 
 // Each function writes its text from a place of the buffer on, and answers the place after it.
 
@@ -85,8 +85,8 @@ fn put_field(
     requires { ⌜ (at + 20 ≤ length (now out)) × (frames ≤ 192) × (messages ≤ 192) × (d ≤ 192) ⌝ }
     ensures { λ p. ⌜ Put (now (out .entry)) (now (out .exit)) at p (lineAt (now (file .entry)) frames messages d) 20 ⌝ }
 {
-    let r = layout::field_at(file, frames + messages + d);
-    let g = layout::message_at(file, frames + r.message as usize);
+    let r = record::field_at(file, frames + messages + d);
+    let g = record::message_at(file, frames + r.message as usize);
     put_line(out, at, r, g.width)
 }
 

@@ -14,15 +14,15 @@ use borrow.Author.Tests.{lt-leb, lt-ltb, eqb-true, eq-eqb}
 use Rattle.packing.specs.Places.{bitPlaces, places, inFrame}
 use Rattle.packing.specs.Values.{isWidth, inRange, valueOf, extended}
 use Rattle.packing.proofs.Values.{pattern-below, extended-pattern, extended-value}
-use Rattle.layout.specs.Numbers.{tally}
-use Rattle.layout.specs.Records as records
+use Rattle.record.specs.Numbers.{tally}
+use Rattle.record.specs.Records as records
+use Rattle.record.specs.declared.Field.{Field as FieldRecord}
+use Rattle.record.proofs.Tests.{meanings}
 use Rattle.layout.specs.Verdict.{isFieldOf, fieldsOf, verdict}
 use Rattle.layout.specs.Refusals.{Fails, Refusal}
 use Rattle.layout.specs.declared.Counts.{Counts}
 use Rattle.layout.specs.declared.Verdict.{Verdict}
-use Rattle.layout.specs.declared.Field.{Field as FieldRecord}
 use Rattle.layout.specs.WellLaid.{theField, itsMessage, itsFrame, WellLaid}
-use Rattle.layout.proofs.Tests.{meanings}
 use Rattle.layout.proofs.Accepted.{kinds, none-before, accepted}
 use Rattle.layout.proofs.Refused.{refused}
 use Rattle.layout.proofs.Node.{few-frames, few-messages, together, frames-rise, message-placed, status-placed, own-disjoint, fields-separate}

@@ -7,10 +7,10 @@ use Prim.Native.Nat.{ℕ, zero, suc, _+_, _-_, _<_, _≤_}
 use native.Mathlib.Nat.{add-zero, add-suc}
 use native.Mathlib.Omega.{arith}
 use native.Mathlib.Decide.{decLt}
-use Rattle.layout.specs.Numbers.{tally, anyBelow, leastBelow}
-use Rattle.layout.proofs.Tests.{any-clear}
+use Rattle.record.specs.Numbers.{tally, anyBelow, leastBelow}
+use Rattle.record.proofs.Tests.{any-clear}
+use Rattle.record.proofs.Searches.{Least, least-below}
 use Rattle.layout.proofs.Tallies.{tally-run, tally-none}
-use Rattle.layout.proofs.Searches.{Least, least-below}
 
 -- ---- counting from a number on
 

@@ -9,7 +9,7 @@ use native.Mathlib.Nat.{zero-add}
 use native.Mathlib.Omega.{arith}
 use lib.ListN.{length, getD}
 use Rattle.whole.specs.Whole.{allOf}
-use Rattle.layout.proofs.Tests.{and-holds}
+use Rattle.record.proofs.Tests.{and-holds}
 use Rattle.store.specs.Start.{table}
 use Rattle.node.specs.Own.{chosen}
 

@@ -11,7 +11,7 @@ use lib.Dec.{eqb}
 use lib.ListN.{take}
 use borrow.Author.Tests.{eqb-true, eq-eqb}
 use Rattle.whole.specs.Whole.{allOf}
-use Rattle.layout.proofs.Tests.{and-holds, or-holds}
+use Rattle.record.proofs.Tests.{and-holds, or-holds}
 use Rattle.store.specs.declared.Field.{Field}
 use Rattle.store.specs.Node.{Node, fieldAt, noField}
 use Rattle.node.specs.declared.Owner.{Owner}

@@ -9,7 +9,7 @@ use native.Mathlib.Nat.{add-zero, zero-add}
 use native.Mathlib.Omega.{arith}
 use lib.ListN.{length, getD, take, drop}
 use Rattle.whole.specs.Whole.{allOf}
-use Rattle.layout.proofs.Tests.{and-holds}
+use Rattle.record.proofs.Tests.{and-holds}
 use Rattle.node.specs.Own.{chosen}
 use Rattle.node.proofs.Lists.{same-test, Every, chosen-split}
 

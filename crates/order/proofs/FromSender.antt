@@ -15,7 +15,7 @@ use lib.ListN.{length}
 use borrow.Author.Tests.{lt-ltb, eqb-true, eq-eqb, not-true, not-false}
 use Rattle.filter.specs.Filter.{rules, passes}
 use Rattle.agreement.specs.Agreement.{agreed}
-use Rattle.layout.proofs.Tests.{and-holds}
+use Rattle.record.proofs.Tests.{and-holds}
 use Rattle.store.specs.declared.Message.{Message}
 use Rattle.store.specs.declared.Field.{Field}
 use Rattle.store.specs.Node.{Node, messageCount, isSent, noField, frameAt, messageAt, fieldAt}

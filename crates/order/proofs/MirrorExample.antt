@@ -10,10 +10,28 @@ use lib.IntN.{ℤ, pos}
 use Rattle.whole.specs.Whole.{allOf}
 use Rattle.packing.specs.Values.{isWidth, least, greatest, inRange, extend, extended}
 use Rattle.filter.specs.Filter.{rules, passes}
-use Rattle.layout.specs.Numbers.{tally, anyBelow, leastBelow}
-use Rattle.layout.specs.Records.{byteAt, wordAt, isFrame, isMessage, isField, frameAt, messageAt, fieldAt, countsBefore}
-use Rattle.layout.specs.Verdict.{sizeFault, pairBelow, orderFault, wordFault, faultOf, rangeFaultAt, rangeFault, refFault, isFieldOf, unlike}
-use Rattle.layout.specs.Verdict.{groupFault, pastEnd, meet, clash, clashAt, placeFault, fails, noField, complete, failsAt, refusalAt, judged, verdict}
+use Rattle.record.specs.Numbers.{tally, anyBelow, leastBelow}
+use Rattle.record.specs.Records.{byteAt, wordAt, isFrame, isMessage, isField, frameAt, messageAt, fieldAt, pairBelow}
+use Rattle.record.specs.Ranges.{wordFault, faultOf, rangeFaultAt, rangeFault}
+use Rattle.record.specs.Runs.{pastEnd, meet, clash}
+use Rattle.layout.specs.Counts.{countsBefore}
+use Rattle.layout.specs.Verdict.{
+  sizeFault,
+  orderFault,
+  refFault,
+  isFieldOf,
+  unlike,
+  groupFault,
+  clashAt,
+  placeFault,
+  fails,
+  noField,
+  complete,
+  failsAt,
+  refusalAt,
+  judged,
+  verdict,
+}
 use Rattle.layout.specs.declared.Verdict.{Verdict}
 use Rattle.layout.proofs.Examples.{filled}
 use Rattle.store.specs.Node.{Node}

@@ -11,11 +11,15 @@ use Rattle.packing.specs.Values.{inRange, valueOf, patternOf, extended}
 use Rattle.agreement.specs.Agreement.{agreed}
 use Rattle.agreement.specs.declared.Agreed.{Agreed}
 use Rattle.filter.specs.Filter.{passes}
-use Rattle.layout.specs.Records.{frameAt as frameRecord, messageAt as messageRecord, fieldAt as fieldRecord}
+use Rattle.record.specs.Records.{byteAt, frameAt as frameRecord, messageAt as messageRecord, fieldAt as fieldRecord, recordAt, pairBelow}
+use Rattle.record.specs.Ranges.{rangeFault}
+use Rattle.record.specs.Runs.{messageRun, statusRun, pastEnd, meet, clash}
+use Rattle.record.specs.declared.Frame.{Frame as FrameRecord}
+use Rattle.record.specs.declared.Message.{Message as MessageRecord}
+use Rattle.record.specs.declared.Field.{Field as FieldRecord}
+use Rattle.record.specs.declared.Record.{Record}
+use Rattle.record.specs.declared.Run.{Run}
 use Rattle.layout.specs.Verdict.{fieldsOf, verdict}
-use Rattle.layout.specs.declared.Frame.{Frame as FrameRecord}
-use Rattle.layout.specs.declared.Message.{Message as MessageRecord}
-use Rattle.layout.specs.declared.Field.{Field as FieldRecord}
 use Rattle.layout.specs.declared.Verdict.{Verdict}
 use Rattle.layout.specs.declared.Counts.{Counts}
 use Rattle.listing.specs.Put.{Put}
@@ -59,10 +63,20 @@ pub record Once : Type 0 where
   -- agreement, filter
   pub agree : (agreement : ℕ) (instances : List ℤ) → Single (λ (r : Agreed). r ≡ agreed agreement instances)
   pub pass : (filter : ℕ) (signed : Bool) (x1 x2 : ℕ) (new old : ℤ) → Single (λ (r : Bool). r ≡ passes filter signed x1 x2 new old)
-  -- layout
+  -- record
+  pub byte-at : (file : List ℕ) (i k : ℕ) → Single (λ (r : ℕ). r ≡ byteAt file i k)
   pub frame-record : (file : List ℕ) (i : ℕ) → Single (λ (r : FrameRecord). r ≡ frameRecord file i)
   pub message-record : (file : List ℕ) (i : ℕ) → Single (λ (r : MessageRecord). r ≡ messageRecord file i)
   pub field-record : (file : List ℕ) (i : ℕ) → Single (λ (r : FieldRecord). r ≡ fieldRecord file i)
+  pub any-record : (file : List ℕ) (i : ℕ) → Single (λ (r : Record). r ≡ recordAt file i)
+  pub pair-below : (p r : FieldRecord) → Single (λ (b : Bool). b ≡ pairBelow p r)
+  pub range-fault : (file : List ℕ) (i : ℕ) → Single (λ (b : Bool). b ≡ rangeFault file i)
+  pub past-end : (n : ℕ) (a : Run) → Single (λ (b : Bool). b ≡ pastEnd n a)
+  pub runs-meet : (a b : Run) → Single (λ (t : Bool). t ≡ meet a b)
+  pub message-run : (g : MessageRecord) (r : FieldRecord) → Single (λ (a : Run). a ≡ messageRun g r)
+  pub status-run : (r : FieldRecord) → Single (λ (a : Run). a ≡ statusRun r)
+  pub fields-clash : (g : MessageRecord) (r : FieldRecord) (e : MessageRecord) (q : FieldRecord) → Single (λ (b : Bool). b ≡ clash g r e q)
+  -- layout
   pub fields-of : (file : List ℕ) (m n : ℕ) → Single (λ (r : ℕ). r ≡ fieldsOf file m n)
   pub read-layout : (file : List ℕ) → Single (λ (v : Verdict). v ≡ verdict file)
   -- store

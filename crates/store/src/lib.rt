@@ -4,7 +4,7 @@ ghost use mathlib.Core.List.{[]};
 ghost use Prim.Native.Nat.{_+_, _<_, _≤_, min};
 ghost use lib.ListN.{length};
 ghost use lib.Seq.{paste};
-ghost use Rattle.layout.specs.Numbers.{tally};
+ghost use Rattle.record.specs.Numbers.{tally};
 ghost use Rattle.store.specs.Node.{
   wordIn,
   wordThen,
@@ -375,7 +375,7 @@ fn start_head(file: &[u8], frames: usize, f: usize) -> Head
             delivered: 0,
         };
     }
-    let h = layout::frame_at(file, f);
+    let h = record::frame_at(file, f);
     Head {
         length: h.length,
         order: h.order,
@@ -391,7 +391,7 @@ fn first_field(file: &[u8], at: usize, fields: usize, m: u8) -> usize
     ensures { λ r. ⌜ (r ≡ firstField (now (file .entry)) at fields m) × (r ≤ fields) ⌝ }
 {
     for d in 0..fields {
-        let x = layout::field_at(file, at + d);
+        let x = record::field_at(file, at + d);
         if x.message == m {
             return d;
         }
@@ -406,7 +406,7 @@ fn field_number(file: &[u8], at: usize, fields: usize, m: u8) -> usize
 {
     let mut t = 0;
     for d in 0..fields {
-        let x = layout::field_at(file, at + d);
+        let x = record::field_at(file, at + d);
         if x.message == m {
             t += 1;
         }
@@ -419,9 +419,9 @@ fn start_message(file: &[u8], frames: usize, at: usize, fields: usize, m: u8) ->
     requires { ⌜ (frames ≤ 32) × (at ≤ 64) × (fields ≤ 128) ⌝ }
     ensures { λ r. ⌜ (r ≡ startMessage (now (file .entry)) frames at fields m) × (Stored r) ⌝ }
 {
-    let g = layout::message_at(file, frames + m as usize);
+    let g = record::message_at(file, frames + m as usize);
     let first = first_field(file, at, fields, m);
-    let x = layout::field_at(file, at + first);
+    let x = record::field_at(file, at + first);
     let initial = packing::value_of(g.initial, 32, g.sign == 1);
     Message {
         width: g.width,
@@ -488,7 +488,7 @@ fn start_field(file: &[u8], at: usize, fields: usize, d: usize) -> Field
             stage: Stage::Gone(2),
         };
     }
-    let x = layout::field_at(file, at + d);
+    let x = record::field_at(file, at + d);
     Field {
         message: x.message,
         frame: x.frame,

@@ -6,9 +6,9 @@ use mathlib.Core.Bool.{false}
 use Prim.Native.Nat.{_≤_, _-_}
 use native.Mathlib.Omega.{arith}
 use borrow.Author.Needs.{needs}
-use Rattle.layout.specs.Numbers.{anyBelow}
+use Rattle.record.specs.Numbers.{anyBelow}
+use Rattle.record.proofs.Searches.{none-more, found}
 use Rattle.layout.specs.Verdict.{clashAt}
-use Rattle.layout.proofs.Searches.{none-more, found}
 use Rattle.layout.proofs.any_clash.Statement.{statement}
 use Rattle.layout.proofs.any_clash.Tie as tie
 

@@ -5,7 +5,7 @@ use mathlib.Core.Bool.{Bool, true, false, _&&_, true≢false}
 use lib.Dec.{eqb}
 use borrow.Author.Needs.{needs}
 use borrow.Author.Tests.{not-true, not-false}
-use Rattle.layout.specs.Records.{isField}
+use Rattle.record.specs.Records.{isField}
 use Rattle.layout.specs.Verdict.{clashAt}
 use Rattle.layout.proofs.clash_at.Statement.{statement}
 use Rattle.layout.proofs.clash_at.Tie as tie

@@ -6,9 +6,9 @@ use Prim.Native.Nat.{_≤_, _-_}
 use native.Mathlib.Omega.{arith}
 use borrow.Author.Needs.{needs}
 use borrow.Author.Tests.{eq-eqb, ne-eqb}
-use Rattle.layout.specs.Numbers.{anyBelow}
+use Rattle.record.specs.Numbers.{anyBelow}
+use Rattle.record.proofs.Searches.{none-more, found}
 use Rattle.layout.specs.Verdict.{noField, complete}
-use Rattle.layout.proofs.Searches.{none-more, found}
 use Rattle.layout.proofs.complete_file.Statement.{statement}
 use Rattle.layout.proofs.complete_file.Tie as tie
 

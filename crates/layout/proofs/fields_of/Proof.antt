@@ -5,7 +5,7 @@ use mathlib.Core.Path.{_≡_, refl}
 use Prim.Native.Nat.{_≤_, _-_}
 use native.Mathlib.Omega.{arith}
 use borrow.Author.Needs.{needs}
-use Rattle.layout.specs.Numbers.{tally}
+use Rattle.record.specs.Numbers.{tally}
 use Rattle.layout.specs.Verdict.{fieldsOf}
 use Rattle.layout.proofs.Tallies.{tally-more}
 use Rattle.layout.proofs.fields_of.Statement.{statement}

@@ -1,7 +1,7 @@
 -- Whether record k is a field of message m: its kind and its message are what the readers ensure.
 -- Assumes nothing.
 use borrow.Author.Needs.{needs}
-use Rattle.layout.specs.Records.{isField}
+use Rattle.record.specs.Records.{isField}
 use Rattle.layout.specs.Verdict.{isFieldOf}
 use Rattle.layout.proofs.is_field_of.Statement.{statement}
 use Rattle.layout.proofs.is_field_of.Tie as tie

@@ -6,10 +6,10 @@ use mathlib.Core.Bool.{false}
 use Prim.Native.Nat.{_≤_, _-_}
 use native.Mathlib.Omega.{arith}
 use borrow.Author.Needs.{needs}
-use Rattle.layout.specs.Numbers.{anyBelow}
-use Rattle.layout.specs.Records.{countsBefore}
+use Rattle.record.specs.Numbers.{anyBelow}
+use Rattle.record.proofs.Searches.{none-more}
+use Rattle.layout.specs.Counts.{countsBefore}
 use Rattle.layout.specs.Verdict.{failsAt, judged}
-use Rattle.layout.proofs.Searches.{none-more}
 use Rattle.layout.proofs.Reading.{counts-none, counts-few, passed, refused}
 use Rattle.layout.proofs.judge.Statement.{statement}
 use Rattle.layout.proofs.judge.Tie as tie

@@ -2,7 +2,7 @@
 -- Assumes nothing.
 use mathlib.Core.Path.{refl}
 use borrow.Author.Needs.{needs}
-use Rattle.layout.specs.Records.{isFrame, isMessage, isField}
+use Rattle.record.specs.Records.{isFrame, isMessage, isField}
 use Rattle.layout.specs.Verdict.{orderFault}
 use Rattle.layout.proofs.order_fault.Statement.{statement}
 use Rattle.layout.proofs.order_fault.Tie as tie

@@ -4,7 +4,7 @@ use mathlib.Core.Path.{refl}
 use lib.Dec.{eqb}
 use borrow.Author.Needs.{needs}
 use borrow.Author.Tests.{not-true, not-false}
-use Rattle.layout.specs.Records.{isField}
+use Rattle.record.specs.Records.{isField}
 use Rattle.layout.specs.Verdict.{placeFault}
 use Rattle.layout.proofs.place_fault.Statement.{statement}
 use Rattle.layout.proofs.place_fault.Tie as tie

@@ -7,8 +7,8 @@ use native.Mathlib.Omega.{arith}
 use lib.Dec.{eqb, ltb}
 use lib.ListN.{length}
 use borrow.Author.Tests.{ltb-false}
+use Rattle.record.proofs.Tests.{or-clear}
 use Rattle.layout.specs.Verdict.{sizeFault, verdict}
-use Rattle.layout.proofs.Tests.{or-clear}
 use Rattle.layout.proofs.read_layout.Statement.{statement}
 use Rattle.layout.proofs.read_layout.Tie as tie
 

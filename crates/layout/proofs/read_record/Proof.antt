@@ -3,7 +3,8 @@
 use mathlib.Core.Path.{_≡_, refl, sym, _∙_}
 use mathlib.Core.Bool.{false}
 use borrow.Author.Needs.{needs}
-use Rattle.layout.specs.Verdict.{orderFault, rangeFault, refFault, groupFault, placeFault, fails, readAt}
+use Rattle.record.specs.Ranges.{rangeFault}
+use Rattle.layout.specs.Verdict.{orderFault, refFault, groupFault, placeFault, fails, readAt}
 use Rattle.layout.proofs.read_record.Statement.{statement}
 use Rattle.layout.proofs.read_record.Tie as tie
 

@@ -2,7 +2,7 @@
 -- Assumes nothing.
 use mathlib.Core.Path.{refl}
 use borrow.Author.Needs.{needs}
-use Rattle.layout.specs.Records.{isField}
+use Rattle.record.specs.Records.{isField}
 use Rattle.layout.specs.Verdict.{refFault}
 use Rattle.layout.proofs.ref_fault.Statement.{statement}
 use Rattle.layout.proofs.ref_fault.Tie as tie

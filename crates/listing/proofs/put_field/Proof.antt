@@ -1,4 +1,4 @@
--- The line of field d: what `layout` reads is the field's record and its message's, of which the line is made.
+-- The line of field d: what `record` reads is the field's record and its message's, of which the line is made.
 -- Assumes nothing.
 use borrow.Author.Needs.{needs}
 use Rattle.listing.specs.Text.{lineAt}

@@ -9,8 +9,8 @@ use native.Mathlib.Omega.{arith}
 use lib.Dec.{eqb}
 use borrow.Author.Needs.{needs}
 use borrow.Author.Tests.{eq-eqb, ne-eqb}
+use Rattle.record.specs.Numbers.{tally}
 use Rattle.layout.proofs.Tallies.{tally-more}
-use Rattle.layout.specs.Numbers.{tally}
 use Rattle.store.specs.Start.{names}
 use Rattle.store.proofs.field_number.Statement.{statement}
 use Rattle.store.proofs.field_number.Tie as tie

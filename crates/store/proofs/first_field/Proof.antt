@@ -6,9 +6,9 @@ use Prim.Native.Nat.{ℕ, zero, suc, _-_, _≤_}
 use native.Mathlib.Omega.{arith}
 use borrow.Author.Needs.{needs}
 use borrow.Author.Tests.{eq-eqb, ne-eqb}
-use Rattle.layout.proofs.Searches.{none-more, found}
-use Rattle.layout.proofs.Tests.{or-clear}
-use Rattle.layout.specs.Numbers.{anyBelow, leastBelow}
+use Rattle.record.proofs.Searches.{none-more, found}
+use Rattle.record.proofs.Tests.{or-clear}
+use Rattle.record.specs.Numbers.{anyBelow, leastBelow}
 use Rattle.store.specs.Start.{names}
 use Rattle.store.proofs.first_field.Statement.{statement}
 use Rattle.store.proofs.first_field.Tie as tie

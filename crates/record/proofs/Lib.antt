@@ -1,0 +1,3 @@
+pub mod Arms
+pub mod Searches
+pub mod Tests

@@ -1,0 +1,102 @@
+-- RANGE of record i, a search through its bytes. The invariant: no byte before k is at fault. The measure: the bytes left.
+-- Assumes nothing.
+use mathlib.Core.Path.{_≡_, refl, sym, _∙_}
+use mathlib.Core.Bool.{false}
+use Prim.Native.Nat.{_≤_, _-_}
+use native.Mathlib.Omega.{arith}
+use borrow.Author.Needs.{needs}
+use Rattle.record.specs.Numbers.{anyBelow}
+use Rattle.record.specs.Ranges.{rangeFaultAt, rangeFault}
+use Rattle.record.proofs.Searches.{none-more, found}
+use Rattle.record.proofs.range_fault.Statement.{statement}
+use Rattle.record.proofs.range_fault.Tie as tie
+
+abbrev Inv-loop : tie.InvT-loop
+Inv-loop file i kind h g r k₀ k = (k ≤ 24) × (anyBelow (rangeFaultAt file i) k ≡ false)
+
+abbrev μ-loop : tie.MeasureT-loop
+μ-loop file i kind h g r k₀ k = 24 - k
+
+byte-requires : tie.Need-byte-requires Inv-loop μ-loop
+byte-requires c κs = search needs
+
+frame-at-requires : tie.Need-frame-at-requires Inv-loop μ-loop
+frame-at-requires c κs = search needs
+
+message-at-requires : tie.Need-message-at-requires Inv-loop μ-loop
+message-at-requires c κs = search needs
+
+field-at-requires : tie.Need-field-at-requires Inv-loop μ-loop
+field-at-requires c κs = search needs
+
+loop-holds : tie.Need-loop-holds Inv-loop μ-loop
+unfolding anyBelow
+loop-holds c = (search needs, refl)
+
+cast-byte : tie.Need-cast-byte Inv-loop μ-loop
+cast-byte c = search needs
+
+byte-requires-2 : tie.Need-byte-requires-2 Inv-loop μ-loop
+byte-requires-2 c κs = search needs
+
+fault-of-requires : tie.Need-fault-of-requires Inv-loop μ-loop
+fault-of-requires c κs = search needs
+
+-- what the code tests at byte k is the definition's test
+tested :
+    (c : tie.After-fault-of Inv-loop μ-loop)
+    → let a = c .before .before .before .before .before .before .before .before .before .args in
+    c .fault-of .result ≡ rangeFaultAt (a .file .now) (a .i) (c .before .before .before .loop .k)
+unfolding rangeFaultAt
+tested c =
+    rw (
+      ← c .before .before .before .before .before .before .before .byte .ensures,
+      ← c .before .before .before .before .before .before .frame-at .ensures,
+      ← c .before .before .before .before .before .message-at .ensures,
+      ← c .before .before .before .before .field-at .ensures,
+      ← c .before .byte2 .ensures,
+    )
+    (c .fault-of .ensures)
+
+returns : tie.Need-returns Inv-loop μ-loop
+unfolding rangeFault
+returns c =
+    let here = sym (tested (c .before)) ∙ c .if1 .taken in
+    sym (found _ _ 24 (c .before .before .before .before .loop .inv .1) here (c .before .before .before .loop-test .taken) .some)
+
+add-k : tie.Need-add-k Inv-loop μ-loop
+add-k c = search needs
+
+loop-less : tie.Need-loop-less Inv-loop μ-loop
+loop-less c = search needs
+
+loop-again : tie.Need-loop-again Inv-loop μ-loop
+loop-again c =
+    let here = sym (tested (c .before)) ∙ c .if1 .left in
+    (search needs, none-more _ _ (c .before .before .before .before .loop .inv .1) here)
+
+returns-2 : tie.Need-returns-2 Inv-loop μ-loop
+unfolding rangeFault
+returns-2 c =
+    let e : c .before .loop .k ≡ 24 = omega arith in
+    rw (← e) (sym (c .before .loop .inv .1))
+
+pub range-fault-spec : {M : Type 1} → statement M
+range-fault-spec =
+    tie.close
+    (tie.spec
+    Inv-loop
+    μ-loop
+    byte-requires
+    frame-at-requires
+    message-at-requires
+    field-at-requires
+    loop-holds
+    cast-byte
+    byte-requires-2
+    fault-of-requires
+    returns
+    add-k
+    loop-less
+    loop-again
+    returns-2)

@@ -172,11 +172,14 @@ module _ (s : List ℕ) (F M D : ℕ) where
             sign = r .sign;
             direction = r .direction;
             agreement = r .agreement;
+            sent-agreement = λ sent. r .sent-agreement (eqb-true _ _ sent);
             filter = r .filter;
             statusbit = its-first .status;
             heard = λ sent. rw first-names at (its-first .heard) (eqb-true _ _ sent);
             x1 = r .x1 .fits;
             x2 = r .x2 .fits;
+            unused-x1 = r .x1 .unused;
+            unused-x2 = r .x2 .unused;
             valid = at-most-one (eqb (field (first m) .status) 0);
             status = inr (inr (inl refl));
             held = held;

@@ -84,11 +84,14 @@ module _ {n : Node} (s : Sound n) {F : List Frame} {M : List Message} {D : List 
         sign = before .sign;
         direction = before .direction;
         agreement = before .agreement;
+        sent-agreement = before .sent-agreement;
         filter = before .filter;
         statusbit = before .statusbit;
         heard = before .heard;
         x1 = before .x1;
         x2 = before .x2;
+        unused-x1 = before .unused-x1;
+        unused-x2 = before .unused-x2;
         valid = step .valid;
         status = step .status;
         held = step .held;

@@ -1,13 +1,14 @@
 -- What holds of every node that a load makes and every call keeps. No call asks for it: it is what makes the outcomes mean what the paper says.
 -- Assumes nothing.
 use mathlib.Core.Path.{_≡_}
-use mathlib.Core.Bool.{true}
+use mathlib.Core.Bool.{true, false}
 use mathlib.Core.List.{List}
 use mathlib.Core.Logic.{_⊎_}
 use Prim.Native.Nat.{ℕ, _+_, _<_, _≤_}
 use lib.ListN.{length}
 use Rattle.packing.specs.Places.{inFrame, placesIn, Disjoint}
 use Rattle.packing.specs.Values.{isWidth, inRange, extended}
+use Rattle.record.specs.Ranges.{usesX1, usesX2}
 use Rattle.store.specs.declared.Stage.{Stage}
 use Rattle.store.specs.declared.Stage.the-variants.{Waiting, Loaded, Gone}
 use Rattle.store.specs.declared.Message.{Message}
@@ -35,11 +36,14 @@ pub record SoundMessage (n : Node) (g : Message) : Type 0 where
   pub sign : g .sign ≤ 1
   pub direction : g .direction ≤ 1
   pub agreement : g .agreement ≤ 2
+  pub sent-agreement : isSent g ≡ true → g .agreement ≡ 0
   pub filter : g .filter ≤ 13
   pub statusbit : g .statusbit ≤ 1
   pub heard : isSent g ≡ true → g .statusbit ≡ 0 → g .filter ≡ 0
   pub x1 : extended (isSigned g) (g .width) (g .x1) ≡ true
   pub x2 : extended (isSigned g) (g .width) (g .x2) ≡ true
+  pub unused-x1 : usesX1 (g .filter) ≡ false → g .x1 ≡ 0
+  pub unused-x2 : usesX2 (g .filter) ≡ false → g .x2 ≡ 0
   pub valid : g .valid ≤ 1
   pub status : IsStatus (g .status)
   pub held : inRange (isSigned g) (g .width) (g .held) ≡ true

@@ -42,6 +42,10 @@ module _ {A : Type 0} where
   in-left [] q i = absurd (in-none i)
   in-left (x ∷ p) q i = ⊎-elim in-eq (λ j. there (in-left p q j)) (in-cases i)
 
+  pub before-in : {a b : A} {l : List A} → Before a b l → In b l
+  before-in (first i) = there i
+  before-in (later k) = there (before-in k)
+
   pub before-cases : {a b c : A} {l : List A} → Before a b (c ∷ l) → ((a ≡ c) × In b l) ⊎ Before a b l
   before-cases (first i) = inl (refl, i)
   before-cases (later k) = inr k

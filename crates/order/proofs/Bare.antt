@@ -25,7 +25,7 @@ use Rattle.node.specs.Closing.{instances, noneCame, closedMessage, closeMessage
 use Rattle.node.specs.Sound.{Sound}
 use Rattle.node.proofs.Lists.{by-test}
 use Rattle.node.proofs.Kept.{send-kept, invalidate-kept, assemble-kept, consumed-kept, deliver-kept, close-kept}
-use Rattle.order.specs.Runs.{Call, send, invalidate, assemble, consumed, readFlag, deliver, close, receive, next}
+use Rattle.order.specs.Runs.{Call, send, invalidate, assemble, consumed, readFlag, deliver, close, receive, next, final}
 use Rattle.order.specs.Bare.{bareFrame, bareMessage, bareField, layoutOf}
 
 -- ---- a cell of the bare node
@@ -164,3 +164,13 @@ kept-sound s (readFlag m p) = s
 kept-sound s (deliver f valid d) = deliver-kept s f valid d
 kept-sound s close = close-kept s
 kept-sound s (receive m p) = s
+
+-- ---- lists of calls
+
+pub final-layout : (n : Node) (l : List Call) → layoutOf (final n l) ≡ layoutOf n
+final-layout n [] = refl
+final-layout n (c ∷ l) = final-layout (next n c) l ∙ kept-layout n c
+
+pub final-sound : {n : Node} → Sound n → (l : List Call) → Sound (final n l)
+final-sound s [] = s
+final-sound s (c ∷ l) = final-sound (kept-sound s c) l

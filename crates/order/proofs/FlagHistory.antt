@@ -22,20 +22,10 @@ use Rattle.node.proofs.Answers.{send-tests, send-access}
 use Rattle.order.specs.Runs.{Call, send, readFlag, Seen, answerOf, seenOf, next, final}
 use Rattle.order.specs.Bare.{layoutOf}
 use Rattle.order.specs.Flag.{Sent, GoesOut, AllOut, shows}
-use Rattle.order.proofs.Among.{in-none}
-use Rattle.order.proofs.Bare.{same-message-number, same-message, kept-layout, kept-sound}
+use Rattle.order.proofs.Among.{in-none, before-in}
+use Rattle.order.proofs.Bare.{same-message-number, same-message, kept-layout, kept-sound, final-layout, final-sound}
 use Rattle.order.proofs.Carried.{FieldOf, field-stays, all-fields, carried, carrying}
-use Rattle.order.proofs.Stages.{send-waiting, before-in, field-history}
-
--- ---- lists of calls
-
-final-layout : (n : Node) (l : List Call) → layoutOf (final n l) ≡ layoutOf n
-final-layout n [] = refl
-final-layout n (c ∷ l) = final-layout (next n c) l ∙ kept-layout n c
-
-final-sound : {n : Node} → Sound n → (l : List Call) → Sound (final n l)
-final-sound s [] = s
-final-sound s (c ∷ l) = final-sound (kept-sound s c) l
+use Rattle.order.proofs.Stages.{send-waiting, field-history}
 
 -- ---- the flag
 

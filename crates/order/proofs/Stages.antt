@@ -29,7 +29,7 @@ use Rattle.node.proofs.Owners.{fields-named}
 use Rattle.order.specs.Runs.{Call, send, invalidate, assemble, consumed, readFlag, deliver, close, receive, answerOf, next, final}
 use Rattle.order.specs.Order.{In, here, there, Before, first, later}
 use Rattle.order.specs.Flag.{Answered, withAnswer, done, answered, Sent, GoesOut}
-use Rattle.order.proofs.Among.{in-none, in-cases, before-cases}
+use Rattle.order.proofs.Among.{in-none, in-cases, before-in, before-cases}
 use Rattle.order.proofs.Bare.{kept-layout, kept-sound}
 use Rattle.order.proofs.Carried.{FieldOf, field-stays}
 
@@ -134,10 +134,6 @@ module _ {n : Node} {d m f : ℕ} (s : Sound n) (x : FieldOf n d m f) where
       (λ a. rw a (moved-own Change.Consume (Owner.Frame f) (eq-eqb _ f (x .frame))))
 
 -- ---- all calls of a list
-
-pub before-in : {A : Type 0} {a b : A} {l : List A} → Before a b l → In b l
-before-in (first i) = there i
-before-in (later k) = there (before-in k)
 
 -- what the calls must hold for a field of frame f at the stage to be gone after them
 abbrev pub Goes : Stage → Node → ℕ → List Call → Type 0

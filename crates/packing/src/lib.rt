@@ -68,15 +68,15 @@ fn in_frame(bytes: usize, start: u8, width: u8) -> bool
     (width <= 32) & ((end + 7) / 8 <= bytes)
 }
 
+// The number of bytes is said so that a compiler sees that a status bit has one.
 fn pack_bits(frame: &mut [u8], big: bool, start: usize, width: usize, pattern: u32)
     requires { ⌜ (start + width ≤ length (now frame) * 8) × (start + width ≤ 287) × (width ≤ 32) ⌝ }
     ensures { λ _. ⌜ now (frame .exit) ≡ packed (places big start width) pattern (now (frame .entry)) ⌝ }
 {
-    let end = start + width;
     let first = start / 8;
-    let past = (end + 7) / 8;
+    let past = first + (start % 8 + width + 7) / 8;
     let x = window(&frame[..], big, first, past);
-    let k = low_bit(big, start, past, end);
+    let k = low_bit(big, start, past, start + width);
     put_window(frame, big, first, past, with_bits(x, k, width, pattern));
 }
 
@@ -84,11 +84,11 @@ fn unpack_bits(frame: &[u8], big: bool, start: usize, width: usize) -> u32
     requires { ⌜ (start + width ≤ length (now frame) * 8) × (start + width ≤ 287) × (width ≤ 32) ⌝ }
     ensures { λ r. ⌜ r ≡ unpacked (places big start width) (now (frame .entry)) ⌝ }
 {
-    let end = start + width;
-    let past = (end + 7) / 8;
-    let x = window(frame, big, start / 8, past);
+    let first = start / 8;
+    let past = first + (start % 8 + width + 7) / 8;
+    let x = window(frame, big, first, past);
     let m = 1u64 << width;
-    ((x >> low_bit(big, start, past, end)) % m) as u32
+    ((x >> low_bit(big, start, past, start + width)) % m) as u32
 }
 
 // A pattern's lowest bits into the field's places. A status bit is a field of width 1. A field that does not lie in the frame changes nothing.

@@ -112,48 +112,12 @@ pub fn unpack(frame: &[u8], big: bool, start: u8, width: u8) -> u32
 
 // ---- values
 
-// The largest unsigned value of each width.
-const LARGEST: [u32; 33] = [
-    0, // width 0
-    1, // width 1
-    3, // width 2
-    7, // width 3
-    15, // width 4
-    31, // width 5
-    63, // width 6
-    127, // width 7
-    255, // width 8
-    511, // width 9
-    1023, // width 10
-    2047, // width 11
-    4095, // width 12
-    8191, // width 13
-    16383, // width 14
-    32767, // width 15
-    65535, // width 16
-    131071, // width 17
-    262143, // width 18
-    524287, // width 19
-    1048575, // width 20
-    2097151, // width 21
-    4194303, // width 22
-    8388607, // width 23
-    16777215, // width 24
-    33554431, // width 25
-    67108863, // width 26
-    134217727, // width 27
-    268435455, // width 28
-    536870911, // width 29
-    1073741823, // width 30
-    2147483647, // width 31
-    4294967295, // width 32
-];
-
+// The largest unsigned value of a width. The shift has 64 bits, since one of 32 bits by 32 would wrap.
 fn largest(width: u8) -> u32
     requires { ⌜ width ≤ 32 ⌝ }
     ensures { λ r. ⌜ r ≡ 2 ^ width - 1 ⌝ }
 {
-    LARGEST[width as usize]
+    ((1u64 << width as u64) - 1) as u32
 }
 
 // Whether a message of that width and sign holds the value.

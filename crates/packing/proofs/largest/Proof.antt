@@ -1,47 +1,36 @@
--- `packing::largest` meets its contract: the table's rule is one test over all its entries, which antt computes, and a law that turns the test
--- into the rule at each entry. The entries stand in the source alone.
+-- `packing::largest` meets its contract: a shift of 1 by up to 32 loses no bit of 64, so that one less is all ones and fits 32 bits.
 -- Assumes nothing.
 use borrow.Author.Needs.{needs}
 use mathlib.Core.Path.{_≡_}
-use mathlib.Core.Bool.{Bool, true, false, _&&_}
-use mathlib.Core.List.{List, [], _∷_}
-use Prim.Native.Nat.{ℕ, zero, suc, _+_, _-_, _^_, _<_}
-use native.Mathlib.Nat.{add-zero, not-suc-le-zero, zero-add}
+use Prim.Native.Nat.{ℕ, _-_, _*_, _%_, _^_, _<_, _≤_}
 use native.Mathlib.Omega.{arith}
-use lib.Dec.{T, eqb, eqb→eq}
-use lib.ListN.{length, getD}
+use lib.Pow.{pow-mono, pow-pos}
+use Rattle.packing.proofs.Windows.{power}
 use Rattle.packing.proofs.largest.Statement.{statement}
 use Rattle.packing.proofs.largest.Tie as tie
 
--- the test: the entries from width k on are the largest numbers of their widths
-abbrev right : ℕ → List ℕ → Bool
-right k [] = true
-right k (x ∷ xs) = eqb x (2 ^ k - 1) && right (suc k) xs
+-- a shift by any number up to 32
+positive : {n : ℕ} → n ≤ 32 → 0 < 1 * 2 ^ n % 2 ^ 64
+positive {n} h = rw (power n h) (pow-pos n)
 
--- the rule that it shows
-both : (a b : Bool) → T (a && b) → T a × T b
-both true b t = (tt, t)
-both false b t = absurd t
+ones-fit : {n : ℕ} → n ≤ 32 → 1 * 2 ^ n % 2 ^ 64 - 1 < 2 ^ 32
+ones-fit {n} h = rw (power n h) (omega (arith, pow-pos n, pow-mono h))
 
-rule : (xs : List ℕ) (i : ℕ) → T (right i xs) → (k : ℕ) → k < length xs → getD xs k 0 ≡ 2 ^ (i + k) - 1
-rule [] i t k h = absurd (not-suc-le-zero h)
-rule (x ∷ xs) i t zero h = rw add-zero (eqb→eq x (2 ^ i - 1) (both (eqb x (2 ^ i - 1)) (right (suc i) xs) t .0))
-rule (x ∷ xs) i t (suc k) h =
-    let e : i + suc k ≡ suc i + k = omega arith in
-    rw e (rule xs (suc i) (both (eqb x (2 ^ i - 1)) (right (suc i) xs) t .1) k (omega arith))
+-- the shift that the first fact is about is one by the width
+by-width : {n : ℕ} (w : ℕ) → 0 < 1 * 2 ^ n % 2 ^ 64 → n ≡ w → w ≤ 32 → 1 * 2 ^ n % 2 ^ 64 ≡ 2 ^ w
+by-width w _ e h = rw e (power w h)
 
--- the same for a whole table: the list is taken from the goal
-entry : (xs : List ℕ) (k : ℕ) → T (right 0 xs) → k < length xs → getD xs k 0 ≡ 2 ^ k - 1
-entry xs k t h = rw zero-add at (rule xs 0 t k h)
+shl-result : tie.Need-shl-result
+shl-result c = search needs
 
-mul-result : tie.Need-mul-result
-mul-result c = search needs
+sub-result : tie.Need-sub-result
+sub-result c = positive (omega arith)
 
-array-read-result : tie.Need-array-read-result
-array-read-result c = search needs
+cast-result : tie.Need-cast-result
+cast-result c = record { fits = ones-fit (omega arith) }
 
 returns : tie.Need-returns
-returns c = let h : c .args .width < 33 = omega arith in rw (entry, tt, h)
+returns c = omega (arith, by-width (c .args .width) (sub-result c) (omega arith) (omega arith))
 
 pub largest-spec : {M : Type 1} → statement M
-largest-spec = tie.close (tie.spec mul-result array-read-result returns)
+largest-spec = tie.close (tie.spec shl-result sub-result cast-result returns)

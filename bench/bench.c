@@ -209,7 +209,7 @@ static struct shape random_shape(void)
 static void compare(unsigned layouts, unsigned calls)
 {
     static struct layout l;
-    unsigned seen[256] = {0}, refused[8] = {0};
+    unsigned seen[256] = {0}, refused[MONDGURT_WIDTH + 1] = {0};
 
     for (unsigned k = 0; k < layouts; k++) {
         struct shape s = random_shape();
@@ -223,13 +223,13 @@ static void compare(unsigned layouts, unsigned calls)
         }
         l.file[random_below(l.length)] ^= 1 << random_below(8);
         inputs[0] = (struct input){.file = l.file, .length = random_below(8) ? l.length : random_below(l.length)};
-        refused[both(LOAD, 1) % 8]++;
+        refused[MONDGURT_REFUSAL(both(LOAD, 1))]++;
     }
     printf("%u layouts, %u calls: no difference.\nAnswers 0 and 16 to 23:", layouts, layouts * calls);
     for (unsigned answer = 0; answer < 24; answer += answer ? 1 : 16)
         printf(" %u", seen[answer]);
-    printf("\nA byte changed, accepted and refusals 1 to 7:");
-    for (unsigned refusal = 0; refusal < 8; refusal++)
+    printf("\nA byte changed, accepted and refusals 1 to 10:");
+    for (unsigned refusal = 0; refusal <= MONDGURT_WIDTH; refusal++)
         printf(" %u", refused[refusal]);
     printf("\n\n");
 }

@@ -32,7 +32,10 @@ static int load(const char *name)
     fclose(from);
     uint32_t answer = mondgurt_load(&a_first, file, length);
     if (answer != 0) {
-        fprintf(stderr, "%s: refusal %" PRIu32 " of record %" PRIu32 "\n", name, MONDGURT_REFUSAL(answer), MONDGURT_RECORD(answer));
+        fprintf(stderr, "%s: refusal %" PRIu32 " of record %" PRIu32, name, MONDGURT_REFUSAL(answer), MONDGURT_RECORD(answer));
+        if (MONDGURT_BYTE(answer) != 0)
+            fprintf(stderr, " at byte %" PRIu32, MONDGURT_BYTE(answer));
+        fputs("\n", stderr);
         return 0;
     }
     b_first = a_first;

@@ -38,20 +38,27 @@ typedef struct {
 #define MONDGURT_SUPPRESSED 23   /* frame not to be sent */
 
 /* Layout refusals. */
-#define MONDGURT_SIZE 1    /* length not a multiple of 24, or above 4,608 */
-#define MONDGURT_ORDER 2   /* a record out of order */
-#define MONDGURT_RANGE 3   /* a byte or word outside its range */
-#define MONDGURT_REF 4     /* a field names an absent message or frame, or their directions differ */
-#define MONDGURT_GROUP 5   /* too many fields, or the fields of a message do not fit together */
-#define MONDGURT_PLACE 6   /* a bit past the frame's end, or used twice */
-#define MONDGURT_NOFIELD 7 /* a message has no field */
-
-/* The refusal in the answer of a load, or 0, and the record that was refused, counted from 0. */
-#define MONDGURT_REFUSAL(answer) ((answer) % 256)
-#define MONDGURT_RECORD(answer) ((answer) / 256)
+#define MONDGURT_SIZE 1     /* length not a multiple of 24, or above 4,608 */
+#define MONDGURT_ORDER 2    /* a record out of order */
+#define MONDGURT_RANGE 3    /* any other byte outside its range */
+#define MONDGURT_REF 4      /* a field names an absent message or frame, or their directions differ */
+#define MONDGURT_GROUP 5    /* too many fields, or the fields of a message do not fit together */
+#define MONDGURT_PLACE 6    /* a bit past the frame's end, or used twice */
+#define MONDGURT_NOFIELD 7  /* a message has no field */
+#define MONDGURT_RESERVED 8 /* a byte without a name is not zero */
+#define MONDGURT_UNUSED 9   /* x1 or x2 is not zero, though the filter does not use it */
+#define MONDGURT_WIDTH 10   /* x1, x2 or the initial value is not extended from the message's width */
 
 /*
- * Reads a layout file. Answers 0, or refusal + 256 * record. At start each message holds its initial value, received ones have the status
+ * The refusal in the answer of a load, or 0; the record that was refused, counted from 0; and for RANGE, RESERVED, UNUSED and WIDTH the lowest wrong
+ * byte of that record, for a word its first. The others give no byte, which is 0 here: byte 0 is the kind, and a wrong kind is ORDER.
+ */
+#define MONDGURT_REFUSAL(answer) ((answer) % 256)
+#define MONDGURT_RECORD(answer) ((answer) / 256 % 256)
+#define MONDGURT_BYTE(answer) ((answer) / 65536)
+
+/*
+ * Reads a layout file. Answers 0, or refusal + 256 * record + 65536 * byte. At start each message holds its initial value, received ones have the status
  * MONDGURT_NOT_RECEIVED, sent ones are invalid if they have a status bit and valid if not, and all fields are gone.
  */
 uint32_t mondgurt_load(mondgurt_node *node, const uint8_t *file, size_t length);

@@ -14,6 +14,17 @@
 #error "an answer does not have the paper's number"
 #endif
 
+#if MONDGURT_SIZE != 1 || MONDGURT_ORDER != 2 || MONDGURT_RANGE != 3 || MONDGURT_REF != 4 || MONDGURT_GROUP != 5 || \
+    MONDGURT_PLACE != 6 || MONDGURT_NOFIELD != 7 || MONDGURT_RESERVED != 8 || MONDGURT_UNUSED != 9 || MONDGURT_WIDTH != 10
+#error "a refusal does not have the paper's number"
+#endif
+
+/* WIDTH at byte 16 of record 191. */
+#define REFUSED (10 + 256 * 191 + 65536 * 16)
+#if MONDGURT_REFUSAL(REFUSED) != 10 || MONDGURT_RECORD(REFUSED) != 191 || MONDGURT_BYTE(REFUSED) != 16
+#error "an answer of a load is not taken apart"
+#endif
+
 /* Bytes of guard before and behind what is lent. An odd number, so that it begins at an odd address; 0 for a
    memory checker, which sees each byte outside by itself. */
 #ifndef GUARD

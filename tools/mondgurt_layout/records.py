@@ -43,7 +43,7 @@ class Frame(NamedTuple):
     order: int = 0
     direction: int = 0
     trigger: int = 0
-    unnamed: int = 0  # the bytes that have no name in the paper, as one number
+    reserved: bytes = bytes(RECORD)  # the record's bytes that have no name in the paper; the others are zero here
 
 
 class Message(NamedTuple):
@@ -59,7 +59,7 @@ class Message(NamedTuple):
     x1: int = 0
     x2: int = 0
     initial: int = 0
-    unnamed: int = 0
+    reserved: bytes = bytes(RECORD)
 
 
 class Field(NamedTuple):
@@ -70,7 +70,7 @@ class Field(NamedTuple):
     start: int
     present: int = 0
     place: int = 0
-    unnamed: int = 0
+    reserved: bytes = bytes(RECORD)
 
 
 Record = Union[Frame, Message, Field]
@@ -89,18 +89,14 @@ def encode(record: Record) -> bytes:
 def decode(raw: bytes) -> Optional[Record]:
     """The record in 24 bytes, or None where the kind is not 1 to 3."""
     if raw[0] == 1:
-        return Frame._make([f"frame{raw[1]}", *raw[1:6], number_of(raw[6:])])
+        return Frame._make([f"frame{raw[1]}", *raw[1:6], bytes(6) + raw[6:]])
     if raw[0] == 2:
         values = struct.unpack("<3i" if raw[3] == 1 else "<3I", raw[8:20])
-        return Message._make([f"message{raw[1]}", *raw[1:7], *values, number_of(raw[7:8] + raw[20:])])
+        reserved = bytes(7) + raw[7:8] + bytes(12) + raw[20:]
+        return Message._make([f"message{raw[1]}", *raw[1:7], *values, reserved])
     if raw[0] == 3:
-        return Field._make([*raw[1:6], number_of(raw[6:])])
+        return Field._make([*raw[1:6], bytes(6) + raw[6:]])
     return None
-
-
-def number_of(raw: bytes) -> int:
-    """Bytes as one number, zero exactly if they all are."""
-    return int.from_bytes(raw, "little")
 
 
 class Bit(NamedTuple):

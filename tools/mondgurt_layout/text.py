@@ -18,7 +18,7 @@ from typing import NamedTuple
 
 from .records import AGREEMENTS, DIRECTIONS, FILTERS, ORDERS, SIGNS, TRIGGERS, Field, Frame, Layout, Message, Record
 from .verdict import Refused, accept
-from .words import aligned, counted
+from .words import aligned, counted, either
 
 # A phrase sets a part of a record. Its words in capitals stand for names and numbers, and set the parts of that name.
 Phrases = dict[str, tuple[str, int]]
@@ -85,8 +85,7 @@ def expected(patterns: Iterable[str]) -> str:
     """What phrases want to see, as an English list."""
     meanings = {"NAME": "a name", "FRAME": "the name of a frame"}
     wanted = [meanings.get(pattern, "a number" if pattern.isupper() else f"`{pattern}`") for pattern in patterns]
-    *most, last = dict.fromkeys(wanted)
-    return f"{', '.join(most)} or {last}" if most else last
+    return either(dict.fromkeys(wanted))
 
 
 def take(words: list[Word], phrases: Phrases) -> Said:

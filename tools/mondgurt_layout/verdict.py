@@ -3,41 +3,84 @@
 from __future__ import annotations
 
 from collections.abc import Iterable, Iterator
-from typing import Optional
+from heapq import merge
+from operator import attrgetter
+from typing import NamedTuple, Optional
 
-from .records import DIRECTIONS, LONGEST, RECORD, Field, Frame, Layout, Record, decode
+from .records import (
+    AGREEMENTS,
+    DIRECTIONS,
+    FILTERS,
+    LONGEST,
+    ORDERS,
+    RECORD,
+    SIGNS,
+    TRIGGERS,
+    Field,
+    Frame,
+    Layout,
+    Message,
+    Record,
+    decode,
+)
+from .words import counted, either
 
-SIZE, ORDER, RANGE, REF, GROUP, PLACE, NOFIELD = range(1, 8)
-REFUSALS = ("", "SIZE", "ORDER", "RANGE", "REF", "GROUP", "PLACE", "NOFIELD")
+SIZE, ORDER, RANGE, REF, GROUP, PLACE, NOFIELD, RESERVED, UNUSED, WIDTH = range(1, 11)
+REFUSALS = ("", "SIZE", "ORDER", "RANGE", "REF", "GROUP", "PLACE", "NOFIELD", "RESERVED", "UNUSED", "WIDTH")
 
-# Where the bounds alone do not say what is wrong.
+# What the paper calls a part, where that is longer.
+NAMES = {"present": "status bit present", "place": "status bit place"}
+# The words for the numbers 0, 1, 2 .. of a part.
 WORDS = {
-    "number": "there are at most 32 frames and 32 messages",
-    "agreement": "only a received message has an agreement, 0 to 2",
-    "unnamed": "a byte that has no name is not zero",
+    "order": ORDERS,
+    "direction": DIRECTIONS,
+    "trigger": TRIGGERS,
+    "sign": SIGNS,
+    "agreement": AGREEMENTS,
+    "filter": FILTERS,
+    "present": ("no", "yes"),
 }
 
 USE_X1 = (2, 3, 6, 7, 8, 9)
 USE_X2 = (2, 3, 8, 9)
 
-# The part of a record that fails a test, and what is wrong with it. Only the first fault counts, so a test may rely on
-# those before it.
-Fault = tuple[str, str]
+
+# Only the first fault counts, so a test may rely on those before it.
+class Fault(NamedTuple):
+    """The refusal, the part of a record that is at fault, what is wrong with it, and the byte if one is given."""
+
+    number: int
+    part: str
+    words: str
+    byte: Optional[int] = None
 
 
 class Refused(Exception):
-    """A refusal with its number, its record, and the part of the record that is at fault."""
+    """A refusal: the record, its fault, and where that is in the words of the listing program."""
 
-    def __init__(self, number: int, record: int, part: str, words: str) -> None:
-        super().__init__(f"refused {number} {REFUSALS[number]} record {record}: {words}")
-        self.number, self.record, self.part, self.words = number, record, part, words
+    def __init__(self, record: int, fault: Fault) -> None:
+        self.record = record
+        self.number, self.part, self.words, self.byte = fault
+        self.at = f"record {record}" if self.byte is None else f"record {record} byte {self.byte}"
+        super().__init__(f"refused {self.number} {REFUSALS[self.number]} {self.at}: {self.words}")
+
+
+class Range(NamedTuple):
+    """The first byte of a part, its least and greatest value, why only these, and the refusal of any other."""
+
+    byte: int
+    part: str
+    least: int
+    greatest: int
+    reason: str = ""
+    number: int = RANGE
 
 
 def read(file: bytes) -> Layout:
     """The layout of a file, or Refused."""
     if len(file) % RECORD or len(file) > LONGEST:
         words = f"{len(file)} bytes are not a multiple of {RECORD} up to {LONGEST}"
-        raise Refused(SIZE, 0, "length", words)
+        raise Refused(0, Fault(SIZE, "length", words))
     return accept(decode(file[at : at + RECORD]) for at in range(0, len(file), RECORD))
 
 
@@ -46,15 +89,15 @@ def accept(records: Iterable[Optional[Record]]) -> Layout:
     layout = Layout()
     for place, record in enumerate(records):
         if record is None:
-            raise Refused(ORDER, place, "kind", "the kind is not 1 to 3")
-        for number, faults in TESTS:
-            for part, words in faults(layout, record):
-                raise Refused(number, place, part, words)
+            raise Refused(place, Fault(ORDER, "kind", "the kind is not 1 to 3"))
+        for faults in TESTS:
+            for fault in faults(layout, record):
+                raise Refused(place, fault)
         layout.add(record)
     for message in layout.messages:
         if not layout.fields_of(message):
             place = len(layout.frames) + message.number
-            raise Refused(NOFIELD, place, "name", f"{message.name} has no field")
+            raise Refused(place, Fault(NOFIELD, "name", f"{message.name} has no field"))
     return layout
 
 
@@ -63,51 +106,89 @@ def order_faults(layout: Layout, record: Record) -> Iterator[Fault]:
     if isinstance(record, Field):
         before = layout.fields[-1][:2] if layout.fields else (-1, -1)
         if record[:2] == before:
-            yield "frame", "the message has a field in this frame already"
+            yield Fault(ORDER, "frame", "the message has a field in this frame already")
         if record[:2] < before:
-            yield "frame", "the pair of message and frame is not above that of the field before"
+            yield Fault(ORDER, "frame", "the pair of message and frame is not above that of the field before")
     else:
         is_frame = isinstance(record, Frame)
         if layout.fields or is_frame and layout.messages:
-            yield "kind", "the kind is below the kind before"
+            yield Fault(ORDER, "kind", "the kind is below the kind before")
         following = len(layout.frames) if is_frame else len(layout.messages)
         if record.number != following:
-            yield "number", f"number {record.number} is not the next, {following}"
+            yield Fault(ORDER, "number", f"number {record.number} is not the next, {following}")
 
 
-def range_faults(layout: Layout, record: Record) -> Iterator[Fault]:
-    """Every part lies in its range."""
-    for part, least, greatest in ranges(record):
+def byte_faults(layout: Layout, record: Record) -> Iterator[Fault]:
+    """Every part lies in its range, and the reserved bytes are zero; the lowest byte decides."""
+    yield from merge(range_faults(record), reserved_faults(record), key=attrgetter("byte"))
+
+
+def reserved_faults(record: Record) -> Iterator[Fault]:
+    """The reserved bytes that are not zero, upwards."""
+    for byte, value in enumerate(record.reserved):
+        if value:
+            where = f"byte {byte} of a {type(record).__name__.lower()} record"
+            yield Fault(RESERVED, "reserved", f"{where} has no meaning, so it must be 0, not {value}", byte)
+
+
+def range_faults(record: Record) -> Iterator[Fault]:
+    """The parts that do not lie in their range, upwards."""
+    for byte, part, least, greatest, reason, number in ranges(record):
         value = getattr(record, part)
         if not least <= value <= greatest:
-            span = f"{least} to {greatest}" if least < greatest else f"{least}"
-            yield part, WORDS.get(part, f"{part} {value} is not {span}")
+            words = f"{NAMES.get(part, part)} {told(part, value)} is not {span(part, least, greatest)}"
+            yield Fault(number, part, f"{words}, {reason}" if reason else words, byte)
 
 
-def ranges(record: Record) -> Iterator[tuple[str, int, int]]:
-    """The parts of a record with their least and greatest values."""
+def ranges(record: Record) -> Iterator[Range]:
+    """The parts of a record, upwards."""
     if isinstance(record, Field):
-        yield "present", 0, 1
+        yield Range(4, "present", 0, 1)
         if not record.present:
-            yield "place", 0, 0
+            yield Range(5, "place", 0, 0, "as no status bit is present")
     elif isinstance(record, Frame):
-        yield "number", 0, 31
-        yield "length", 1, 32
-        yield "order", 0, 1
-        yield "direction", 0, 1
-        yield "trigger", 0, 1
+        yield Range(1, "number", 0, 31, "as there are at most 32 frames")
+        yield Range(2, "length", 1, 32)
+        yield Range(3, "order", 0, 1)
+        yield Range(4, "direction", 0, 1)
+        yield Range(5, "trigger", 0, 1)
     else:
-        yield "number", 0, 31
-        yield "width", 1, 32
-        yield "sign", 0, 1
-        yield "direction", 0, 1
-        yield "agreement", 0, 0 if record.direction else 2
-        yield "filter", 0, 13
-        values = values_of(record.width, record.sign)
-        yield "x1", *(values if record.filter in USE_X1 else (0, 0))
-        yield "x2", *(values if record.filter in USE_X2 else (0, 0))
-        yield "initial", *values
-    yield "unnamed", 0, 0
+        yield Range(1, "number", 0, 31, "as there are at most 32 messages")
+        yield Range(2, "width", 1, 32)
+        yield Range(3, "sign", 0, 1)
+        yield Range(4, "direction", 0, 1)
+        if record.direction:
+            yield Range(5, "agreement", 0, 0, "as the message is sent")
+        else:
+            yield Range(5, "agreement", 0, 2)
+        yield Range(6, "filter", 0, 13)
+        yield value_range(record, 8, "x1") if record.filter in USE_X1 else unused_range(record, 8, "x1")
+        yield value_range(record, 12, "x2") if record.filter in USE_X2 else unused_range(record, 12, "x2")
+        yield value_range(record, 16, "initial")
+
+
+def value_range(message: Message, byte: int, part: str) -> Range:
+    """A word that holds a value of its message."""
+    reason = f"the values of {counted(message.width, SIGNS[message.sign] + ' bit')}"
+    return Range(byte, part, *values_of(message.width, message.sign), reason, WIDTH)
+
+
+def unused_range(message: Message, byte: int, part: str) -> Range:
+    """A word that the filter does not use."""
+    return Range(byte, part, 0, 0, f"as filter {told('filter', message.filter)} does not use it", UNUSED)
+
+
+def told(part: str, value: int) -> str:
+    """A value of a part, with its word if it has one."""
+    words = WORDS.get(part, ())
+    return f"{value} ({words[value]})" if 0 <= value < len(words) else f"{value}"
+
+
+def span(part: str, least: int, greatest: int) -> str:
+    """What a part may be; up to three values are told one by one."""
+    if greatest - least < 3:
+        return either(told(part, value) for value in range(least, greatest + 1))
+    return f"{least} to {greatest}"
 
 
 def values_of(width: int, sign: int) -> tuple[int, int]:
@@ -120,13 +201,13 @@ def ref_faults(layout: Layout, record: Record) -> Iterator[Fault]:
     if not isinstance(record, Field):
         return
     if record.message >= len(layout.messages):
-        yield "message", f"there is no message {record.message}"
+        yield Fault(REF, "message", f"there is no message {record.message}")
     if record.frame >= len(layout.frames):
-        yield "frame", f"there is no frame {record.frame}"
+        yield Fault(REF, "frame", f"there is no frame {record.frame}")
     message, frame = layout.messages[record.message], layout.frames[record.frame]
     if message.direction != frame.direction:
         directions = DIRECTIONS[message.direction], DIRECTIONS[frame.direction]
-        yield "frame", f"{message.name} is {directions[0]} and {frame.name} is {directions[1]}"
+        yield Fault(REF, "frame", f"{message.name} is {directions[0]} and {frame.name} is {directions[1]}")
 
 
 def group_faults(layout: Layout, record: Record) -> Iterator[Fault]:
@@ -136,17 +217,17 @@ def group_faults(layout: Layout, record: Record) -> Iterator[Fault]:
     message = layout.messages[record.message]
     earlier = layout.fields_of(message)
     if len(earlier) == 8:
-        yield "frame", f"{message.name} has 8 fields already"
+        yield Fault(GROUP, "frame", f"{message.name} has 8 fields already")
     if len(layout.fields) == 128:
-        yield "frame", "there are 128 fields already"
+        yield Fault(GROUP, "frame", "there are 128 fields already")
     if earlier and earlier[0].present != record.present:
         other = layout.frames[earlier[0].frame].name
         if record.present:
-            yield "present", f"{message.name} has no status bit in {other}, so it can have none here"
+            yield Fault(GROUP, "present", f"{message.name} has no status bit in {other}, so it can have none here")
         else:
-            yield "frame", f"{message.name} has a status bit in {other}, so it needs one here"
+            yield Fault(GROUP, "frame", f"{message.name} has a status bit in {other}, so it needs one here")
     if message.direction and message.filter and not record.present:
-        yield "frame", f"{message.name} is sent through a filter, so it needs a status bit"
+        yield Fault(GROUP, "frame", f"{message.name} is sent through a filter, so it needs a status bit")
 
 
 def place_faults(layout: Layout, record: Record) -> Iterator[Fault]:
@@ -159,16 +240,10 @@ def place_faults(layout: Layout, record: Record) -> Iterator[Fault]:
     for place, bit in layout.bits_of(record):
         part = "place" if bit.bit is None else "start"
         if not 0 <= place <= last:
-            yield part, f"bit {place} is not in {frame.name}, which has bits 0 to {last}"
+            yield Fault(PLACE, part, f"bit {place} is not in {frame.name}, which has bits 0 to {last}")
         if place in used:
-            yield part, f"bit {place} of {frame.name} is taken by {used[place].message.name}"
+            yield Fault(PLACE, part, f"bit {place} of {frame.name} is taken by {used[place].message.name}")
         used[place] = bit
 
 
-TESTS = (
-    (ORDER, order_faults),
-    (RANGE, range_faults),
-    (REF, ref_faults),
-    (GROUP, group_faults),
-    (PLACE, place_faults),
-)
+TESTS = (order_faults, byte_faults, ref_faults, group_faults, place_faults)

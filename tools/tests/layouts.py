@@ -16,11 +16,22 @@ def file(*records: str) -> bytes:
     return b"".join(bytes.fromhex(record).ljust(24, b"\0") for record in records)
 
 
+def put(record: str, byte: int, values: str) -> str:
+    """A record with other values from a byte on, all in hexadecimal."""
+    raw, changed = file(record), bytes.fromhex(values)
+    return (raw[:byte] + changed + raw[byte + len(changed) :]).hex()
+
+
+def values_of(width: int, sign: int) -> tuple[int, int]:
+    """The least and the greatest value of a message."""
+    return (-(2 ** (width - 1)), 2 ** (width - 1) - 1) if sign else (0, 2**width - 1)
+
+
 def random_message(random: Random, number: int, direction: int) -> Message:
     """A message of any width with a filter and values in range."""
     width, sign = random.randint(1, 32), random.randint(0, 1)
     filter_number = random.randint(0, 13)
-    least, greatest = (-(2 ** (width - 1)), 2 ** (width - 1) - 1) if sign else (0, 2**width - 1)
+    least, greatest = values_of(width, sign)
     values = [random.choice([least, greatest, random.randint(least, greatest)]) for _ in range(3)]
     x1 = values[0] if filter_number in (2, 3, 6, 7, 8, 9) else 0
     x2 = values[1] if filter_number in (2, 3, 8, 9) else 0

@@ -6,9 +6,17 @@ import tempfile
 import unittest
 from pathlib import Path
 
-from .layouts import SAMPLES, file
+from .layouts import SAMPLES, file, put
 
 PROGRAM = Path(__file__).resolve().parents[1] / "layout"
+
+# A record after a frame, and how it is refused.
+WRONG_BYTES = [
+    ("02 00 21", 3, "RANGE", 2, "width 33 is not 1 to 32"),
+    ("02 00 0A 00 00 00 00 01", 8, "RESERVED", 7, "byte 7 of a message record has no meaning, so it must be 0, not 1"),
+    (put("02 00 0A", 8, "05"), 9, "UNUSED", 8, "x1 5 is not 0, as filter 0 (true) does not use it"),
+    (put("02 00 0A", 17, "04"), 10, "WIDTH", 16, "initial 1024 is not 0 to 1023, the values of 10 unsigned bits"),
+]
 
 
 class Command(unittest.TestCase):
@@ -45,6 +53,16 @@ class Command(unittest.TestCase):
         self.assertEqual((1, "", words), self.run_layout("text", "bad.layout"))
         self.assertEqual((1, "", words), self.run_layout("draw", "bad.layout"))
         self.assertEqual((0, "refused 6 record 2\n", ""), self.run_layout("list", "bad.layout"))
+
+    def test_refused_for_a_byte(self) -> None:
+        for record, number, name, byte, words in WRONG_BYTES:
+            with self.subTest(name=name):
+                (self.folder / "bad.layout").write_bytes(file("01 00 02", record))
+                told = f"bad.layout: refused {number} {name} record 1 byte {byte}: {words}\n"
+                self.assertEqual((1, "", told), self.run_layout("text", "bad.layout"))
+                self.assertEqual((1, "", told), self.run_layout("draw", "bad.layout"))
+                listed = f"refused {number} record 1 byte {byte}\n"
+                self.assertEqual((0, listed, ""), self.run_layout("list", "bad.layout"))
 
     def test_list(self) -> None:
         listing = (0, "message frame start width status\n0 0 3 10 -\n", "")

@@ -16,6 +16,9 @@ NINE = "".join(f"frame f{number} 2 bytes\n" for number in range(9))
 MANY = "".join(f"frame f{number} 32 bytes\n" for number in range(5)) + "".join(
     f"message m{number} 1 bit\n" + "".join(f"in f{frame} at {number}\n" for frame in range(4)) for number in range(32)
 )
+TOO_MANY = "number 32 is not 0 to 31, as there are at most 32"
+TEN_BITS, TEN_SIGNED = "0 to 1023, the values of 10 unsigned bits", "-512 to 511, the values of 10 signed bits"
+FOUR_BITS = "0 to 15, the values of 4 unsigned bits"
 
 # A text, and where and how it is wrong.
 MISTAKES = [
@@ -43,13 +46,19 @@ MISTAKES = [
     ("frame a 33 bytes", "1:9: length 33 is not 1 to 32"),
     ("frame a 0 bytes", "1:9: length 0 is not 1 to 32"),
     (FRAME + "message m 33 bits", "2:11: width 33 is not 1 to 32"),
-    (FRAME + "message m 10 bits signed initial 512", "2:34: initial 512 is not -512 to 511"),
-    (FRAME + "message m 10 bits signed initial 0x400", "2:34: initial 1024 is not -512 to 511"),
-    (FRAME + "message m 10 bits initial -1", "2:27: initial -1 is not 0 to 1023"),
-    (FRAME + "message m 4 bits filter 0 <= new <= 16", "2:37: x2 16 is not 0 to 15"),
-    (FRAME + "message m 4 bits filter new & 0x10 changed", "2:31: x1 16 is not 0 to 15"),
-    (FRAME + "message m 4 bits sent vote", "2:23: only a received message has an agreement, 0 to 2"),
-    ("\n".join(f"frame f{n} 1 byte" for n in range(33)), "33:7: there are at most 32 frames and 32 messages"),
+    (FRAME + "message m 33 bits initial -1", "2:11: width 33 is not 1 to 32"),
+    (FRAME + "message m 4 bits sent vote", "2:23: agreement 2 (vote) is not 0 (pick any), as the message is sent"),
+    ("\n".join(f"frame f{n} 1 byte" for n in range(33)), f"33:7: {TOO_MANY} frames"),
+    ("\n".join(f"message m{n} 1 bit" for n in range(33)), f"33:9: {TOO_MANY} messages"),
+    # WIDTH
+    (FRAME + "message m 10 bits initial 1024", f"2:27: initial 1024 is not {TEN_BITS}"),
+    (FRAME + "message m 10 bits initial -1", f"2:27: initial -1 is not {TEN_BITS}"),
+    (FRAME + "message m 10 bits signed initial 512", f"2:34: initial 512 is not {TEN_SIGNED}"),
+    (FRAME + "message m 10 bits signed initial 0x400", f"2:34: initial 1024 is not {TEN_SIGNED}"),
+    (FRAME + "message m 1 bit signed initial 1", "2:32: initial 1 is not -1 or 0, the values of 1 signed bit"),
+    (FRAME + "message m 4 bits filter 0 <= new <= 16", f"2:37: x2 16 is not {FOUR_BITS}"),
+    (FRAME + "message m 4 bits filter new & 0x10 changed", f"2:31: x1 16 is not {FOUR_BITS}"),
+    (FRAME + "message m 4 bits initial 17 filter 16 <= new <= 0", f"2:36: x1 16 is not {FOUR_BITS}"),
     # REF
     ("frame a 2 bytes sent\nmessage m 10 bits\n  in a at 3", "3:6: m is received and a is sent"),
     # GROUP

@@ -1,15 +1,18 @@
-//! Changes that make a valid layout file wrong, each aimed at one clause of one refusal.
-//! A change answers none if the file has no place for it.
+//! Changes that make a valid layout file wrong, each aimed at one clause of one refusal, or at any
+//! byte of one that gives a byte. A change answers none if the file has no place for it.
 
 // All changes have one type, though only some make the file longer or shorter.
 #![allow(clippy::ptr_arg)]
 
-use crate::files::{build, put_pattern, valid, Plan, EIGHT_EACH, LARGEST};
+use std::cmp::Reverse;
+
+use crate::files::{build, valid, Plan, EIGHT_EACH, LARGEST};
 use crate::layout::{
-    uses_x1, uses_x2, FIELD, FRAME, GROUP, LONGEST, MESSAGE, NOFIELD, ORDER, PLACE, RANGE, RECORD,
-    REF, SIZE,
+    FIELD, FRAME, GROUP, LONGEST, MESSAGE, NOFIELD, ORDER, PLACE, RANGE, RECORD, REF, RESERVED,
+    SIZE, UNUSED, WIDTH,
 };
 use crate::random::Random;
+use crate::wrong::{all_places, Place, PLACES};
 
 pub type Change = fn(&mut Random, &mut Vec<u8>) -> Option<()>;
 
@@ -28,23 +31,10 @@ pub const CHANGES: &[(u8, Change)] = &[
     (ORDER, same_pair),
     (ORDER, lower_frame),
     (ORDER, lower_message),
-    (RANGE, frame_32),
-    (RANGE, message_32),
-    (RANGE, frame_length),
-    (RANGE, frame_flag),
-    (RANGE, message_width),
-    (RANGE, message_flag),
-    (RANGE, agreement_above_2),
-    (RANGE, agreement_though_sent),
-    (RANGE, filter_above_13),
-    (RANGE, x1_not_extended),
-    (RANGE, x2_not_extended),
-    (RANGE, initial_not_extended),
-    (RANGE, x1_though_unused),
-    (RANGE, x2_though_unused),
-    (RANGE, status_neither_0_nor_1),
-    (RANGE, place_though_absent),
-    (RANGE, unnamed_byte),
+    (RANGE, byte_out_of_range),
+    (RESERVED, reserved_byte),
+    (UNUSED, unused_word),
+    (WIDTH, word_not_extended),
     (REF, absent_message),
     (REF, absent_frame),
     (REF, last_left_out),
@@ -90,8 +80,26 @@ fn any_change(random: &mut Random) -> Change {
     }
 }
 
+/// A file with wrong bytes in one record. The even turns go through all places, one in each file;
+/// the odd ones have several.
+pub fn wrong_bytes(random: &mut Random, turn: u64) -> Vec<u8> {
+    let places = all_places();
+    // In large steps, so that few files reach all kinds of record; there are 59 places, a prime, so
+    // that none is left out.
+    let place = places[(turn / 2 * 23) as usize % places.len()];
+    match turn % 2 {
+        0 => with_change(random, |random, file| {
+            make_wrong(random, file, vec![place]).map(|_| ())
+        }),
+        _ => with_change(random, several_wrong),
+    }
+}
+
 /// Draws valid files until one has a place for the change.
-pub fn with_change(random: &mut Random, change: Change) -> Vec<u8> {
+pub fn with_change(
+    random: &mut Random,
+    change: impl Fn(&mut Random, &mut Vec<u8>) -> Option<()>,
+) -> Vec<u8> {
     loop {
         let mut file = valid(random);
         if change(random, &mut file).is_some() {
@@ -307,137 +315,86 @@ fn lower_message(random: &mut Random, file: &mut Vec<u8>) -> Option<()> {
     set(file, at + 1, message)
 }
 
-// RANGE
+// RANGE, RESERVED, UNUSED and WIDTH
 
-fn frame_32(random: &mut Random, file: &mut Vec<u8>) -> Option<()> {
-    let plan = Plan {
-        frames: 33,
-        messages: random.between(0, 31),
-        ..LARGEST
-    };
-    *file = build(random, plan);
+fn byte_out_of_range(random: &mut Random, file: &mut Vec<u8>) -> Option<()> {
+    wrong_for(random, file, RANGE)
+}
+
+fn reserved_byte(random: &mut Random, file: &mut Vec<u8>) -> Option<()> {
+    wrong_for(random, file, RESERVED)
+}
+
+fn unused_word(random: &mut Random, file: &mut Vec<u8>) -> Option<()> {
+    wrong_for(random, file, UNUSED)
+}
+
+fn word_not_extended(random: &mut Random, file: &mut Vec<u8>) -> Option<()> {
+    wrong_for(random, file, WIDTH)
+}
+
+/// At any place of this refusal.
+fn wrong_for(random: &mut Random, file: &mut Vec<u8>, number: u8) -> Option<()> {
+    let mut places = all_places();
+    places.retain(|place| place.number == number);
+    let place = random.pick(&places)?;
+    make_wrong(random, file, vec![place])?;
     Some(())
 }
 
-fn message_32(random: &mut Random, file: &mut Vec<u8>) -> Option<()> {
-    let plan = Plan {
-        messages: 33,
-        each: (1, 3),
-        ..LARGEST
-    };
-    *file = build(random, plan);
-    Some(())
-}
-
-fn frame_length(random: &mut Random, file: &mut Vec<u8>) -> Option<()> {
-    let at = any(random, file, FRAME, |_| true)?;
-    set_one_of(random, file, at + 2, &[0, 0, 33, 33, 34, 255])
-}
-
-/// Order, direction or trigger.
-fn frame_flag(random: &mut Random, file: &mut Vec<u8>) -> Option<()> {
-    let at = any(random, file, FRAME, |_| true)? + random.between(3, 5);
-    set_one_of(random, file, at, &[2, 3, 128, 255])
-}
-
-/// As often as not nothing else depends on the width: filter True and all words zero.
-fn message_width(random: &mut Random, file: &mut Vec<u8>) -> Option<()> {
-    let at = any(random, file, MESSAGE, |_| true)?;
-    if random.once_in(2) {
-        file[at + 6..at + RECORD].fill(0);
+/// Two to four places of one record, each refusal equally often.
+fn several_wrong(random: &mut Random, file: &mut Vec<u8>) -> Option<()> {
+    let kind = random.pick(&[FRAME, MESSAGE, MESSAGE, MESSAGE, FIELD])?;
+    let mut rows = PLACES.to_vec();
+    rows.retain(|row| row.0 == kind);
+    let mut places = Vec::new();
+    for _ in 0..random.between(2, 4) {
+        let (kind, number, bytes) = random.pick(&rows)?;
+        let byte = random.pick(bytes)?;
+        places.push(Place { kind, number, byte });
     }
-    set_one_of(random, file, at + 2, &[0, 0, 33, 33, 34, 255])
-}
-
-/// Sign or direction.
-fn message_flag(random: &mut Random, file: &mut Vec<u8>) -> Option<()> {
-    let at = any(random, file, MESSAGE, |_| true)? + random.between(3, 4);
-    set_one_of(random, file, at, &[2, 3, 128, 255])
-}
-
-fn agreement_above_2(random: &mut Random, file: &mut Vec<u8>) -> Option<()> {
-    let at = any(random, file, MESSAGE, |_| true)?;
-    set_one_of(random, file, at + 5, &[3, 4, 128, 255])
-}
-
-fn agreement_though_sent(random: &mut Random, file: &mut Vec<u8>) -> Option<()> {
-    let at = any(random, file, MESSAGE, |message| message[4] == 1)?;
-    set_one_of(random, file, at + 5, &[1, 2])
-}
-
-fn filter_above_13(random: &mut Random, file: &mut Vec<u8>) -> Option<()> {
-    let at = any(random, file, MESSAGE, |_| true)?;
-    set_one_of(random, file, at + 6, &[14, 15, 128, 255])
-}
-
-fn x1_not_extended(random: &mut Random, file: &mut Vec<u8>) -> Option<()> {
-    let at = any(random, file, MESSAGE, |message| {
-        message[2] < 32 && uses_x1(message[6])
-    })?;
-    flip_above_width(random, file, at, 8)
-}
-
-fn x2_not_extended(random: &mut Random, file: &mut Vec<u8>) -> Option<()> {
-    let at = any(random, file, MESSAGE, |message| {
-        message[2] < 32 && uses_x2(message[6])
-    })?;
-    flip_above_width(random, file, at, 12)
-}
-
-fn initial_not_extended(random: &mut Random, file: &mut Vec<u8>) -> Option<()> {
-    let at = any(random, file, MESSAGE, |message| message[2] < 32)?;
-    flip_above_width(random, file, at, 16)
-}
-
-/// Flips all the bits above the message's width in one of its words, or only one of them.
-fn flip_above_width(
-    random: &mut Random,
-    file: &mut [u8],
-    message: usize,
-    word: usize,
-) -> Option<()> {
-    let width = usize::from(file[message + 2]);
-    let one = random.between(width, 31);
-    let (first, last) = random.pick(&[(width, 31), (one, one)])?;
-    for bit in first..=last {
-        file[message + word + bit / 8] ^= 1 << (bit % 8);
+    let at = make_wrong(random, file, places)?;
+    // Once in eight ORDER decides before these, or for a field REF or PLACE would after them.
+    if random.once_in(8) {
+        let byte = random.between(1, if kind == FIELD { 3 } else { 1 });
+        set_one_of(random, file, at + byte, &[0, 255])?;
     }
     Some(())
 }
 
-fn x1_though_unused(random: &mut Random, file: &mut Vec<u8>) -> Option<()> {
-    let at = any(random, file, MESSAGE, |message| !uses_x1(message[6]))?;
-    put_pattern(random, &mut file[at..at + RECORD], 8);
-    Some(())
+/// Makes these places wrong in any record that has room for all of them, and names it.
+fn make_wrong(random: &mut Random, file: &mut Vec<u8>, mut places: Vec<Place>) -> Option<usize> {
+    // From the last byte to the first: a word is made wrong for a width, which is made wrong after.
+    places.sort_by_key(|place| Reverse(place.byte));
+    places.dedup();
+    let &Place { kind, byte, .. } = places.last()?;
+    if byte == 1 {
+        *file = with_number_32(random, kind);
+    }
+    let at = any(random, file, kind, |record| {
+        places.iter().all(|place| place.fits(record))
+    })?;
+    for place in places {
+        place.put(random, &mut file[at..at + RECORD]);
+    }
+    Some(at)
 }
 
-fn x2_though_unused(random: &mut Random, file: &mut Vec<u8>) -> Option<()> {
-    let at = any(random, file, MESSAGE, |message| !uses_x2(message[6]))?;
-    put_pattern(random, &mut file[at..at + RECORD], 12);
-    Some(())
-}
-
-fn status_neither_0_nor_1(random: &mut Random, file: &mut Vec<u8>) -> Option<()> {
-    let at = any(random, file, FIELD, |_| true)?;
-    set_one_of(random, file, at + 4, &[2, 3, 128, 255])
-}
-
-fn place_though_absent(random: &mut Random, file: &mut Vec<u8>) -> Option<()> {
-    let at = any(random, file, FIELD, |field| field[4] == 0)?;
-    let place = random.byte(1, 255);
-    set(file, at + 5, place)
-}
-
-fn unnamed_byte(random: &mut Random, file: &mut Vec<u8>) -> Option<()> {
-    let kind = random.byte(FRAME, FIELD);
-    let at = any(random, file, kind, |_| true)?;
-    let unnamed: Vec<usize> = match kind {
-        MESSAGE => vec![7, 20, 21, 22, 23],
-        _ => (6..RECORD).collect(),
+/// A file with one frame or message too many.
+fn with_number_32(random: &mut Random, kind: u8) -> Vec<u8> {
+    let plan = match kind {
+        FRAME => Plan {
+            frames: 33,
+            messages: random.between(0, 31),
+            ..LARGEST
+        },
+        _ => Plan {
+            messages: 33,
+            each: (1, 3),
+            ..LARGEST
+        },
     };
-    let byte = random.pick(&unnamed)?;
-    let value = random.byte(1, 255);
-    set_one_of(random, file, at + byte, &[1, 128, 255, value])
+    build(random, plan)
 }
 
 // REF

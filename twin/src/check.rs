@@ -43,7 +43,7 @@ pub fn check(case: &Case, replies: &[Reply], counts: &mut Counts) -> Result<(), 
         }
         _ if !case.damage.is_empty() => check_damaged(case, replies, counts),
         (verdict, _) => {
-            counts.file(&verdict);
+            counts.file(&case.file, &verdict);
             Ok(())
         }
     }
@@ -144,16 +144,30 @@ fn check_orders(case: &Case, first: &Played, second: &Played) -> Result<(), Diff
 fn check_load(verdict: &Verdict, reply: &Reply) -> Result<(), Difference> {
     let (answer, changed) = match verdict {
         Verdict::Accepted(_) => (0, true),
-        Verdict::Refused { number, record } => (u32::from(*number) + 256 * *record as u32, false),
+        Verdict::Refused {
+            number,
+            record,
+            byte,
+        } => {
+            let byte = byte.map_or(0, u32::from);
+            let answer = u32::from(*number) + 256 * *record as u32 + 65536 * byte;
+            (answer, false)
+        }
     };
     if reply.answer != answer {
-        let shown = |answer| match answer {
-            0 => String::from("accepted"),
-            _ => format!("refused {} record {}", answer % 256, answer / 256),
-        };
         return Err(two_sides(shown(answer), shown(reply.answer)));
     }
     check_marks(reply, changed)
+}
+
+/// The answer of a load. Byte 0 means that there is none.
+fn shown(answer: u32) -> String {
+    let (number, record, byte) = (answer % 256, answer / 256 % 256, answer / 65536);
+    match (answer, byte) {
+        (0, _) => String::from("accepted"),
+        (_, 0) => format!("refused {number} record {record}"),
+        _ => format!("refused {number} record {record} byte {byte}"),
+    }
 }
 
 /// If the twin's node is the same after the call, and so after every refusal, then no byte of the

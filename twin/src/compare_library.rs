@@ -17,8 +17,10 @@ const CALLS: u64 = 200_000;
 const FILES: u64 = 20_000;
 const SEED: u64 = 1;
 
-/// With at least the default number of calls and files, all that can occur has to occur so often.
+/// With at least the default number of calls and files, all that can occur has to occur so often,
+/// and each refusal at each byte that it can give.
 const LEAST: u64 = 100;
+const LEAST_PLACE: u64 = 20;
 
 /// Each player plays its share of so many cases at once.
 const PLAYERS: usize = 2;
@@ -155,6 +157,10 @@ fn conclude(task: &Task, counts: &Counts) -> ExitCode {
     let few_calls = task.calls >= CALLS && calls < LEAST;
     if few_files || few_calls {
         println!("something occurred fewer than {LEAST} times");
+        return ExitCode::from(1);
+    }
+    if task.files >= FILES && counts.least_place() < LEAST_PLACE {
+        println!("a refusal was given at some byte fewer than {LEAST_PLACE} times");
         return ExitCode::from(1);
     }
     println!("no difference");

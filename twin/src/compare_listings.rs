@@ -9,7 +9,7 @@ use std::thread;
 
 use twin::compare::records;
 use twin::files;
-use twin::layout::{listing, read, Verdict};
+use twin::layout::{listing, read, Verdict, REFUSALS};
 
 const COUNT: u64 = 10_000;
 const SEED: u64 = 1;
@@ -26,7 +26,7 @@ pub struct Task {
 }
 
 /// How often each verdict occurred: accepted at 0, else at the refusal's number.
-type Counts = [u64; 8];
+type Counts = [u64; 1 + REFUSALS];
 
 /// The file at which the comparison stopped, and what the program printed for it if it could run.
 struct Stop {
@@ -71,7 +71,7 @@ fn compare(task: &Task) -> Result<Counts, Stop> {
     let mut stops = Vec::new();
     for result in results {
         match result {
-            Ok(counts) => (0..8).for_each(|verdict| total[verdict] += counts[verdict]),
+            Ok(counts) => (0..=REFUSALS).for_each(|verdict| total[verdict] += counts[verdict]),
             Err(stop) => stops.push(stop),
         }
     }
@@ -119,7 +119,9 @@ fn printed(list: &str, file: &[u8]) -> io::Result<Vec<u8>> {
 }
 
 fn conclude(task: &Task, counts: Counts) -> ExitCode {
-    let refused: Vec<String> = (1..8).map(|n| format!("{n}: {}", counts[n])).collect();
+    let refused: Vec<String> = (1..=REFUSALS)
+        .map(|n| format!("{n}: {}", counts[n]))
+        .collect();
     println!(
         "{} files alike: accepted {}; refused {}",
         task.count,

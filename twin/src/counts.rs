@@ -4,8 +4,11 @@ use std::fmt;
 
 use crate::calls::{Call, NAMES};
 use crate::filter::passes;
-use crate::layout::Verdict;
+use crate::layout::{
+    faults, Fault, Verdict, FIELD, FRAME, MESSAGE, RECORD, REFUSALS, UNUSED, WIDTH,
+};
 use crate::node::{Node, OK};
+use crate::wrong::{Row, PLACES};
 
 /// The answers that each call can give, in the order of `Call::kind`.
 const ANSWERS: [&[usize]; 8] = [
@@ -22,7 +25,13 @@ const ANSWERS: [&[usize]; 8] = [
 #[derive(Clone, Default)]
 pub struct Counts {
     /// Files by verdict: accepted at 0, else at the refusal's number.
-    files: [u64; 8],
+    files: [u64; 1 + REFUSALS],
+    /// Files refused at a byte, by kind of record, refusal and byte.
+    places: [[[u64; RECORD]; 1 + REFUSALS]; 4],
+    /// Of these, files whose refused record has faults of two refusals or more, and files with both
+    /// UNUSED and WIDTH at that byte.
+    mixed: u64,
+    unused_and_width: u64,
     layouts: u64,
     calls: u64,
     calls_on_damaged: u64,
@@ -35,11 +44,30 @@ pub struct Counts {
 }
 
 impl Counts {
-    pub fn file(&mut self, verdict: &Verdict) {
-        match verdict {
+    pub fn file(&mut self, file: &[u8], verdict: &Verdict) {
+        match *verdict {
             Verdict::Accepted(_) => self.files[0] += 1,
-            Verdict::Refused { number, .. } => self.files[usize::from(*number)] += 1,
+            Verdict::Refused {
+                number,
+                record,
+                byte,
+            } => {
+                self.files[usize::from(number)] += 1;
+                if let Some(byte) = byte {
+                    let record = &file[record * RECORD..][..RECORD];
+                    self.refused_at(record, number, byte);
+                }
+            }
         }
+    }
+
+    fn refused_at(&mut self, record: &[u8], number: u8, byte: u8) {
+        let [kind, refusal, at] = [record[0], number, byte].map(usize::from);
+        self.places[kind][refusal][at] += 1;
+        let faults = faults(record);
+        let fails = |number| faults.contains(&Fault { byte, number });
+        self.mixed += u64::from(faults.iter().any(|fault| fault.number != number));
+        self.unused_and_width += u64::from(fails(UNUSED) && fails(WIDTH));
     }
 
     pub fn layout(&mut self) {
@@ -78,15 +106,18 @@ impl Counts {
     }
 
     fn all(&mut self) -> impl Iterator<Item = &mut u64> {
-        let of_calls = [
+        let single = [
+            &mut self.mixed,
+            &mut self.unused_and_width,
             &mut self.layouts,
             &mut self.calls,
             &mut self.calls_on_damaged,
         ];
+        let places = self.places.iter_mut().flatten().flatten();
         let answers = self.answers.iter_mut().flatten();
         let filters = self.filters.iter_mut().flatten();
         let fields = self.fields.iter_mut().flatten().flatten();
-        let all = self.files.iter_mut().chain(of_calls);
+        let all = self.files.iter_mut().chain(places).chain(single);
         all.chain(answers).chain(filters).chain(fields)
     }
 
@@ -115,10 +146,23 @@ impl Counts {
     /// The least count of what can occur in files, and in calls.
     pub fn least(&self) -> (u64, u64) {
         let files = self.files.iter().copied();
+        let files = files.chain([self.mixed, self.unused_and_width]);
         let answers = (0..8).flat_map(|kind| ANSWERS[kind].iter().map(move |&a| (kind, a)));
         let answers = answers.map(|(kind, answer)| self.answers[kind][answer]);
         let calls = answers.chain([self.least_filter(), self.least_field()]);
         (files.min().unwrap_or(0), calls.min().unwrap_or(0))
+    }
+
+    /// The least count of files refused at one byte, where that can be.
+    pub fn least_place(&self) -> u64 {
+        let rows = PLACES.iter().map(|row| self.least_in(row));
+        rows.min().unwrap_or(0)
+    }
+
+    fn least_in(&self, &(kind, number, bytes): &Row) -> u64 {
+        let by_byte = self.places[usize::from(kind)][usize::from(number)];
+        let counts = bytes.iter().map(|&byte| by_byte[usize::from(byte)]);
+        counts.min().unwrap_or(0)
     }
 
     /// Each filter passes some values and not others, but 0 passes all and 1 none.
@@ -136,13 +180,29 @@ impl Counts {
 
 impl fmt::Display for Counts {
     fn fmt(&self, f: &mut fmt::Formatter) -> fmt::Result {
-        let refused: Vec<String> = (1..8).map(|n| format!("{n}: {}", self.files[n])).collect();
+        let refused: Vec<String> = (1..=REFUSALS)
+            .map(|n| format!("{n}: {}", self.files[n]))
+            .collect();
         writeln!(
             f,
             "{} files: accepted {}; refused {}",
             self.files(),
             self.files[0],
             refused.join(", ")
+        )?;
+        let kinds = [(FRAME, "frame"), (MESSAGE, "message"), (FIELD, "field")];
+        let kinds = kinds.map(|(kind, name)| {
+            let rows = PLACES.iter().filter(|row| row.0 == kind);
+            let least: Vec<String> = rows
+                .map(|row| format!("{}: {}", row.1, self.least_in(row)))
+                .collect();
+            format!("{name} {}", least.join(", "))
+        });
+        writeln!(f, "  at each byte at least {}", kinds.join("; "))?;
+        writeln!(
+            f,
+            "  faults of two refusals in the record: {}; UNUSED and WIDTH at one byte: {}",
+            self.mixed, self.unused_and_width
         )?;
         writeln!(
             f,

@@ -6,13 +6,15 @@ use crate::random::Random;
 
 pub type Record = [u8; RECORD];
 
-/// The file of an index: half are random bytes, an eighth valid, three eighths changed ones.
+/// The file of an index: half are random bytes, an eighth valid, a quarter changed ones, and an
+/// eighth has wrong bytes in one record.
 pub fn file(seed: u64, index: u64) -> Vec<u8> {
     let mut random = Random::new(seed, index);
     match index % 8 {
         0 | 2 | 4 | 6 => random_bytes(&mut random, index / 2),
         1 => valid(&mut random),
-        _ => changes::changed(&mut random),
+        3 | 5 => changes::changed(&mut random),
+        _ => changes::wrong_bytes(&mut random, index / 8),
     }
 }
 

@@ -1,5 +1,7 @@
-//! The layout file: the reader with its seven refusals, and what the listing program prints.
+//! The layout file: the reader with its ten refusals, and what the listing program prints.
 //! Written sentence by sentence from the paper, to be checked by eye and not to be fast.
+
+use std::ops::RangeInclusive;
 
 pub const SIZE: u8 = 1;
 pub const ORDER: u8 = 2;
@@ -8,6 +10,10 @@ pub const REF: u8 = 4;
 pub const GROUP: u8 = 5;
 pub const PLACE: u8 = 6;
 pub const NOFIELD: u8 = 7;
+pub const RESERVED: u8 = 8;
+pub const UNUSED: u8 = 9;
+pub const WIDTH: u8 = 10;
+pub const REFUSALS: usize = 10;
 
 /// The kinds of record (byte 0).
 pub const FRAME: u8 = 1;
@@ -69,7 +75,20 @@ impl Layout {
 #[derive(Debug, PartialEq)]
 pub enum Verdict {
     Accepted(Layout),
-    Refused { number: u8, record: usize },
+    /// RANGE, RESERVED, UNUSED and WIDTH give a byte of the record, the others none.
+    Refused {
+        number: u8,
+        record: usize,
+        byte: Option<u8>,
+    },
+}
+
+/// What is wrong with a byte of a record, or with a word that begins there. Faults are in the order
+/// in which they decide: the lower byte first, and at one byte UNUSED (9) before WIDTH (10).
+#[derive(Clone, Copy, Debug, PartialEq, Eq, PartialOrd, Ord)]
+pub struct Fault {
+    pub byte: u8,
+    pub number: u8,
 }
 
 /// SIZE, then the records in file order, then NOFIELD; the first failing test decides.
@@ -78,14 +97,16 @@ pub fn read(file: &[u8]) -> Verdict {
         return Verdict::Refused {
             number: SIZE,
             record: 0,
+            byte: None,
         };
     }
     let mut layout = Layout::default();
     for (place, record) in file.chunks(RECORD).enumerate() {
-        if let Some(number) = refusal(&layout, record) {
+        if let Some((number, byte)) = refusal(&layout, record) {
             return Verdict::Refused {
                 number,
                 record: place,
+                byte,
             };
         }
         take_up(&mut layout, record);
@@ -95,6 +116,7 @@ pub fn read(file: &[u8]) -> Verdict {
             number: NOFIELD,
             // All frames stand before the messages, so message 0 is record frames.len().
             record: layout.frames.len() + message,
+            byte: None,
         };
     }
     Verdict::Accepted(layout)
@@ -103,7 +125,14 @@ pub fn read(file: &[u8]) -> Verdict {
 /// What the listing program prints for the file.
 pub fn listing(file: &[u8]) -> String {
     match read(file) {
-        Verdict::Refused { number, record } => format!("refused {number} record {record}\n"),
+        Verdict::Refused {
+            number,
+            record,
+            byte,
+        } => {
+            let byte = byte.map_or(String::new(), |byte| format!(" byte {byte}"));
+            format!("refused {number} record {record}{byte}\n")
+        }
         Verdict::Accepted(layout) => {
             let mut text = String::from("message frame start width status\n");
             for field in &layout.fields {
@@ -126,13 +155,14 @@ fn line(layout: &Layout, field: &Field) -> String {
     )
 }
 
-/// The first of the tests 2 to 6 that the record fails, after the records before it.
-fn refusal(before: &Layout, record: &[u8]) -> Option<u8> {
+/// The first of the tests 2 to 6 that the record fails, after the records before it, and the byte.
+/// RESERVED, UNUSED and WIDTH stand at RANGE's place, and of all the faults there the least decides.
+fn refusal(before: &Layout, record: &[u8]) -> Option<(u8, Option<u8>)> {
     if order_fails(before, record) {
-        return Some(ORDER);
+        return Some((ORDER, None));
     }
-    if range_fails(record) {
-        return Some(RANGE);
+    if let Some(fault) = faults(record).into_iter().min() {
+        return Some((fault.number, Some(fault.byte)));
     }
     // REF, GROUP and PLACE speak of fields only.
     if record[0] != FIELD {
@@ -140,13 +170,13 @@ fn refusal(before: &Layout, record: &[u8]) -> Option<u8> {
     }
     let field = field(record);
     if ref_fails(before, &field) {
-        return Some(REF);
+        return Some((REF, None));
     }
     if group_fails(before, &field) {
-        return Some(GROUP);
+        return Some((GROUP, None));
     }
     if place_fails(before, &field) {
-        return Some(PLACE);
+        return Some((PLACE, None));
     }
     None
 }
@@ -193,49 +223,77 @@ fn pair_not_above(before: &Layout, field: &Field) -> bool {
     }
 }
 
-/// A byte or word outside its range, or a frame or message record numbered 32.
-fn range_fails(record: &[u8]) -> bool {
-    let in_range = match record[0] {
-        FRAME => frame_in_range(record),
-        MESSAGE => message_in_range(record),
-        _ => field_in_range(record),
+/// Every fault of a record that the four refusals at RANGE's place speak of, in no order.
+pub fn faults(record: &[u8]) -> Vec<Fault> {
+    let rules = match record[0] {
+        FRAME => frame_rules(record),
+        MESSAGE => message_rules(record),
+        _ => field_rules(record),
     };
-    !in_range
+    let broken = rules.into_iter().filter(|&(_, _, holds)| !holds);
+    broken
+        .map(|(byte, number, _)| Fault { byte, number })
+        .collect()
 }
 
-fn frame_in_range(record: &[u8]) -> bool {
+/// A byte, the refusal given at it, and whether the record keeps the rule.
+type Rule = (u8, u8, bool);
+
+fn frame_rules(record: &[u8]) -> Vec<Rule> {
     let (number, length, order, direction, trigger) =
         (record[1], record[2], record[3], record[4], record[5]);
-    number < 32
-        && (1..=32).contains(&length)
-        && order <= 1
-        && direction <= 1
-        && trigger <= 1
-        && zero(&record[6..])
+    let mut rules = vec![
+        (1, RANGE, number < 32),
+        (2, RANGE, (1..=32).contains(&length)),
+        (3, RANGE, order <= 1),
+        (4, RANGE, direction <= 1),
+        (5, RANGE, trigger <= 1),
+    ];
+    rules.extend(reserved(record, 6..=23));
+    rules
 }
 
-fn message_in_range(record: &[u8]) -> bool {
+fn message_rules(record: &[u8]) -> Vec<Rule> {
     let (number, width, sign, direction) = (record[1], record[2], record[3], record[4]);
     let (agreement, filter) = (record[5], record[6]);
-    number < 32
-        && (1..=32).contains(&width)
-        && sign <= 1
-        && direction <= 1
-        && agreement <= 2
-        && (direction == 0 || agreement == 0)
-        && filter <= 13
-        && zero(&record[7..8])
-        && words_in_range(&message(record))
-        && zero(&record[20..])
+    let message = message(record);
+    let (x1, x2, initial) = (message.x1, message.x2, message.initial);
+    let width_in_range = (1..=32).contains(&width);
+    // From a width out of range nothing can be extended; that width decides, at byte 2.
+    let fits = |word: u32| !width_in_range || extended(word, &message);
+    let mut rules = vec![
+        (1, RANGE, number < 32),
+        (2, RANGE, width_in_range),
+        (3, RANGE, sign <= 1),
+        (4, RANGE, direction <= 1),
+        (5, RANGE, agreement <= 2),
+        (5, RANGE, direction == 0 || agreement == 0),
+        (6, RANGE, filter <= 13),
+        (8, UNUSED, uses_x1(filter) || x1 == 0),
+        (12, UNUSED, uses_x2(filter) || x2 == 0),
+        (8, WIDTH, fits(x1)),
+        (12, WIDTH, fits(x2)),
+        (16, WIDTH, fits(initial)),
+    ];
+    rules.extend(reserved(record, 7..=7));
+    rules.extend(reserved(record, 20..=23));
+    rules
 }
 
-/// x1, x2 and the initial value extended from the width; an x that the filter does not use, zero.
-fn words_in_range(message: &Message) -> bool {
-    extended(message.x1, message)
-        && extended(message.x2, message)
-        && extended(message.initial, message)
-        && (uses_x1(message.filter) || message.x1 == 0)
-        && (uses_x2(message.filter) || message.x2 == 0)
+/// The message, the frame and the start bit have no range.
+fn field_rules(record: &[u8]) -> Vec<Rule> {
+    let (present, place) = (record[4], record[5]);
+    let mut rules = vec![
+        (4, RANGE, present <= 1),
+        (5, RANGE, present == 1 || place == 0),
+    ];
+    rules.extend(reserved(record, 6..=23));
+    rules
+}
+
+/// Bytes not named are zero.
+fn reserved(record: &[u8], bytes: RangeInclusive<u8>) -> impl Iterator<Item = Rule> + '_ {
+    bytes.map(|byte| (byte, RESERVED, record[usize::from(byte)] == 0))
 }
 
 pub fn uses_x1(filter: u8) -> bool {
@@ -251,17 +309,6 @@ fn extended(pattern: u32, message: &Message) -> bool {
     let bit = |i: usize| pattern >> i & 1 == 1;
     let above = message.signed && bit(message.width - 1);
     (message.width..32).all(|i| bit(i) == above)
-}
-
-/// The message, the frame and the start bit have no range.
-fn field_in_range(record: &[u8]) -> bool {
-    let (present, place) = (record[4], record[5]);
-    present <= 1 && (present == 1 || place == 0) && zero(&record[6..])
-}
-
-/// Bytes not named are zero.
-fn zero(bytes: &[u8]) -> bool {
-    bytes.iter().all(|&byte| byte == 0)
 }
 
 /// A field names an absent message or frame, or their directions differ.

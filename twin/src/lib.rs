@@ -15,3 +15,4 @@ pub mod node;
 pub mod player;
 pub mod random;
 pub mod scripts;
+pub mod wrong;

@@ -1,10 +1,11 @@
 //! The generators: valid files are accepted, each change is refused as it is meant to be, and the
 //! edges that matter occur.
 
-use twin::changes::{with_change, CHANGES};
+use twin::changes::{with_change, wrong_bytes, CHANGES};
 use twin::files::{file, valid};
-use twin::layout::{read, Layout, Verdict};
+use twin::layout::{faults, read, Fault, Layout, Verdict, RECORD};
 use twin::random::Random;
+use twin::wrong::{all_places, Place};
 
 const SEED: u64 = 7;
 
@@ -60,6 +61,63 @@ fn each_change_leads_to_its_refusal() {
             .filter(|it| matches!(it, Verdict::Refused { number, .. } if *number == aim))
             .count();
         assert!(hits >= 25, "change {place}, refusal {aim}: {hits} of 100");
+    }
+}
+
+/// The refused record and where it is wrong, if the refusal gives a byte.
+fn refused_at(file: &[u8]) -> Option<(&[u8], Fault)> {
+    match read(file) {
+        Verdict::Refused {
+            number,
+            record,
+            byte: Some(byte),
+        } => Some((&file[record * RECORD..][..RECORD], Fault { byte, number })),
+        _ => None,
+    }
+}
+
+fn place_of(record: &[u8], Fault { byte, number }: Fault) -> Place {
+    let kind = record[0];
+    Place { kind, number, byte }
+}
+
+#[test]
+fn even_turns_go_through_all_places() {
+    let places = all_places();
+    let rounds = 10;
+    let files = (0..rounds * places.len() as u64)
+        .map(|turn| wrong_bytes(&mut Random::new(SEED, turn), 2 * turn));
+    let seen: Vec<Place> = files
+        .map(|file| {
+            let (record, fault) = refused_at(&file).expect("refused at a byte");
+            place_of(record, fault)
+        })
+        .collect();
+    for place in places {
+        let times = seen.iter().filter(|&&other| other == place).count();
+        assert_eq!(times as u64, rounds, "{place:?}");
+    }
+}
+
+#[test]
+fn odd_turns_have_several_faults() {
+    let several = |turn: &u64| {
+        let file = wrong_bytes(&mut Random::new(SEED, *turn), 2 * turn + 1);
+        refused_at(&file).is_some_and(|(record, first)| {
+            let faults = faults(record);
+            faults.iter().any(|fault| fault.number != first.number)
+        })
+    };
+    assert!((0..1000).filter(several).count() >= 500);
+}
+
+#[test]
+fn no_other_place_is_given() {
+    let places = all_places();
+    for index in 0..4000 {
+        if let Some((record, fault)) = refused_at(&file(SEED, index)) {
+            assert!(places.contains(&place_of(record, fault)));
+        }
     }
 }
 

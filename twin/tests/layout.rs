@@ -1,7 +1,7 @@
 //! The reader and the listing on the paper's examples, on the edges of the limits, and on one file
 //! or more for each refusal.
 
-use twin::layout::{listing, read, Verdict};
+use twin::layout::{listing, read, Verdict, RANGE, RESERVED, UNUSED, WIDTH};
 
 type Record = [u8; 24];
 
@@ -20,9 +20,25 @@ fn is_accepted(file: &[u8]) -> bool {
     matches!(read(file), Verdict::Accepted(_))
 }
 
+/// Refused without a byte.
 #[track_caller]
 fn assert_refused(file: &[u8], number: u8, record: usize) {
-    assert_eq!(read(file), Verdict::Refused { number, record });
+    let refused = Verdict::Refused {
+        number,
+        record,
+        byte: None,
+    };
+    assert_eq!(read(file), refused);
+}
+
+#[track_caller]
+fn assert_refused_at(file: &[u8], number: u8, record: usize, byte: u8) {
+    let refused = Verdict::Refused {
+        number,
+        record,
+        byte: Some(byte),
+    };
+    assert_eq!(read(file), refused);
 }
 
 /// A frame of two bytes, an unsigned message of ten bits, and its field at start 3.
@@ -32,8 +48,15 @@ fn example() -> Vec<u8> {
 
 /// The example with one byte changed.
 fn example_with(record: usize, byte: usize, value: u8) -> Vec<u8> {
+    example_with_all(record, &[(byte, value)])
+}
+
+/// The example with these bytes of one record changed.
+fn example_with_all(record: usize, changes: &[(usize, u8)]) -> Vec<u8> {
     let mut file = example();
-    file[24 * record + byte] = value;
+    for &(byte, value) in changes {
+        file[24 * record + byte] = value;
+    }
     file
 }
 
@@ -70,8 +93,13 @@ fn status_bit_and_two_fields_are_listed() {
 
 #[test]
 fn a_refusal_prints_one_line() {
+    let printed = |record, byte, value| listing(&example_with(record, byte, value));
     assert_eq!(listing(&[0]), "refused 1 record 0\n");
-    assert_eq!(listing(&example_with(1, 2, 33)), "refused 3 record 1\n");
+    assert_eq!(printed(2, 1, 1), "refused 4 record 2\n");
+    assert_eq!(printed(1, 2, 33), "refused 3 record 1 byte 2\n");
+    assert_eq!(printed(2, 23, 1), "refused 8 record 2 byte 23\n");
+    assert_eq!(printed(1, 15, 1), "refused 9 record 1 byte 12\n");
+    assert_eq!(printed(1, 19, 1), "refused 10 record 1 byte 16\n");
 }
 
 #[test]
@@ -159,9 +187,12 @@ fn order_of_pairs() {
 
 #[test]
 fn number_32() {
-    assert_refused(&node(33, 0, |_| 0), 3, 32);
-    assert_refused(&node(8, 33, |_| 1), 3, 8 + 32);
-    assert_refused(&node(34, 0, |_| 0), 3, 32);
+    assert_refused_at(&node(33, 0, |_| 0), RANGE, 32, 1);
+    assert_refused_at(&node(8, 33, |_| 1), RANGE, 8 + 32, 1);
+    assert_refused_at(&node(34, 0, |_| 0), RANGE, 32, 1);
+    let mut length_0_too = node(33, 0, |_| 0);
+    length_0_too[24 * 32 + 2] = 0;
+    assert_refused_at(&length_0_too, RANGE, 32, 1);
 }
 
 #[test]
@@ -182,7 +213,8 @@ fn range_of_each_byte() {
     ];
     for (record, byte, values) in bad {
         for &value in values {
-            assert_refused(&example_with(record, byte, value), 3, record);
+            let file = example_with(record, byte, value);
+            assert_refused_at(&file, RANGE, record, byte as u8);
         }
     }
 }
@@ -190,11 +222,11 @@ fn range_of_each_byte() {
 #[test]
 fn bytes_not_named_are_zero() {
     for byte in 6..24 {
-        assert_refused(&example_with(0, byte, 1), 3, 0);
-        assert_refused(&example_with(2, byte, 128), 3, 2);
+        assert_refused_at(&example_with(0, byte, 1), RESERVED, 0, byte as u8);
+        assert_refused_at(&example_with(2, byte, 128), RESERVED, 2, byte as u8);
     }
     for byte in [7, 20, 21, 22, 23] {
-        assert_refused(&example_with(1, byte, 1), 3, 1);
+        assert_refused_at(&example_with(1, byte, 1), RESERVED, 1, byte as u8);
     }
 }
 
@@ -209,7 +241,18 @@ fn agreement_of_a_sent_message_is_zero() {
     };
     assert!(is_accepted(&with(0, 2)));
     assert!(is_accepted(&with(1, 0)));
-    assert_refused(&with(1, 1), 3, 1);
+    assert_refused_at(&with(1, 1), RANGE, 1, 5);
+    // The direction must itself be in range first.
+    assert_refused_at(&example_with_all(1, &[(4, 2), (5, 1)]), RANGE, 1, 4);
+}
+
+#[test]
+fn place_of_an_absent_status_bit_is_zero() {
+    let with = |present, place| example_with_all(2, &[(4, present), (5, place)]);
+    assert!(is_accepted(&with(1, 1)));
+    // The byte has a name, so it is not RESERVED.
+    assert_refused_at(&with(0, 1), RANGE, 2, 5);
+    assert_refused_at(&with(2, 1), RANGE, 2, 4);
 }
 
 #[test]
@@ -220,14 +263,23 @@ fn words_are_extended_from_the_width() {
         [record(&[1, 0, 4]), message, record(&[3])].concat()
     };
     for at in [8, 12, 16] {
+        let refused = |width, sign, pattern| {
+            let file = with(width, sign, 8, at, pattern);
+            assert_refused_at(&file, WIDTH, 1, at as u8);
+        };
         assert!(is_accepted(&with(10, 0, 8, at, 0x3FF)));
-        assert_refused(&with(10, 0, 8, at, 0x400), 3, 1);
+        refused(10, 0, 0x400);
         assert!(is_accepted(&with(10, 1, 8, at, 0x1FF)));
-        assert_refused(&with(10, 1, 8, at, 0x200), 3, 1);
+        refused(10, 1, 0x200);
         assert!(is_accepted(&with(10, 1, 8, at, 0xFFFF_FE00)));
-        assert_refused(&with(10, 1, 8, at, 0xFFFF_FDFF), 3, 1);
+        refused(10, 1, 0xFFFF_FDFF);
         assert!(is_accepted(&with(32, 0, 8, at, 0xFFFF_FFFF)));
         assert!(is_accepted(&with(32, 1, 8, at, 0x8000_0000)));
+        // A word is given by its first byte, also where only a later one is wrong.
+        for byte in 1..4 {
+            refused(8, 0, 1 << (8 * byte));
+            refused(8, 1, 0x80 << (8 * byte));
+        }
     }
 }
 
@@ -235,15 +287,90 @@ fn words_are_extended_from_the_width() {
 fn words_that_the_filter_does_not_use_are_zero() {
     for filter in 0..=13 {
         let with = |at: usize| {
-            let mut message = record(&[2, 0, 10, 0, 0, 0, filter]);
+            let mut message = record(&[2, 0, 32, 0, 0, 0, filter]);
             message[at] = 1;
-            [record(&[1, 0, 2]), message, record(&[3])].concat()
+            [record(&[1, 0, 4]), message, record(&[3])].concat()
         };
         let x1_used = matches!(filter, 2 | 3 | 6 | 7 | 8 | 9);
         let x2_used = matches!(filter, 2 | 3 | 8 | 9);
-        assert_eq!(is_accepted(&with(8)), x1_used);
-        assert_eq!(is_accepted(&with(12)), x2_used);
-        assert!(is_accepted(&with(16)));
+        for (word, used) in [(8, x1_used), (12, x2_used), (16, true)] {
+            for byte in word..word + 4 {
+                match used {
+                    true => assert!(is_accepted(&with(byte))),
+                    false => assert_refused_at(&with(byte), UNUSED, 1, word as u8),
+                }
+            }
+        }
+    }
+}
+
+#[test]
+fn unused_comes_before_width_at_one_offset() {
+    // The word's last byte is not extended from ten bits.
+    assert_refused_at(&example_with(1, 11, 1), UNUSED, 1, 8);
+    assert_refused_at(&example_with(1, 15, 1), UNUSED, 1, 12);
+    assert_refused_at(&example_with(1, 19, 1), WIDTH, 1, 16);
+}
+
+#[test]
+fn the_lowest_offset_decides() {
+    // A change at each of these bytes, the lower ones of which are dropped one after the other:
+    // filter 6 uses x1 and not x2.
+    let wrong = [
+        (2, 33, RANGE),
+        (3, 2, RANGE),
+        (4, 2, RANGE),
+        (5, 3, RANGE),
+        (7, 1, RESERVED),
+        (8 + 3, 1, WIDTH),
+        (12 + 2, 1, UNUSED),
+        (16 + 1, 128, WIDTH),
+        (20, 1, RESERVED),
+        (23, 1, RESERVED),
+    ];
+    for from in 0..wrong.len() {
+        let mut changes = vec![(6, 6)];
+        changes.extend(wrong[from..].iter().map(|&(byte, value, _)| (byte, value)));
+        let (byte, _, number) = wrong[from];
+        let first = if (8..20).contains(&byte) {
+            byte / 4 * 4
+        } else {
+            byte
+        };
+        assert_refused_at(&example_with_all(1, &changes), number, 1, first as u8);
+    }
+    let both = |record, one: usize, other: usize| example_with_all(record, &[(one, 2), (other, 2)]);
+    assert_refused_at(&both(1, 3, 7), RANGE, 1, 3);
+    assert_refused_at(&both(0, 5, 6), RANGE, 0, 5);
+    assert_refused_at(&both(0, 6, 23), RESERVED, 0, 6);
+    assert_refused_at(&both(2, 5, 6), RANGE, 2, 5);
+    assert_refused_at(&both(2, 22, 23), RESERVED, 2, 22);
+}
+
+#[test]
+fn wrong_width_sign_and_filter_decide_before_the_words() {
+    let words = [(8, 255), (11, 255), (12, 255), (16, 255), (19, 255)];
+    for (byte, values) in [(2, [0, 33, 255]), (3, [2, 3, 255]), (6, [14, 15, 255])] {
+        for value in values {
+            let changes = [&[(byte, value)], &words[..]].concat();
+            let file = example_with_all(1, &changes);
+            assert_refused_at(&file, RANGE, 1, byte as u8);
+        }
+    }
+}
+
+#[test]
+fn the_four_stand_after_order_and_before_ref() {
+    for (byte, value, number) in [(4, 2, RANGE), (5, 1, RANGE), (6, 1, RESERVED)] {
+        // No such message, no such frame, and past the frame's end.
+        for other in [(1, 9), (2, 9), (3, 9)] {
+            let file = example_with_all(2, &[(byte, value), other]);
+            assert_refused_at(&file, number, 2, byte as u8);
+        }
+    }
+    for (byte, value) in [(2, 0), (7, 1), (8, 1), (19, 1)] {
+        assert_refused(&example_with_all(1, &[(1, 1), (byte, value)]), 2, 1);
+        assert_refused(&example_with_all(1, &[(0, 9), (byte, value)]), 2, 1);
     }
 }
 
@@ -341,6 +468,9 @@ fn lowest_message_without_field() {
 #[test]
 fn an_earlier_record_decides_before_a_lower_refusal() {
     // Record 2 lies past the frame's end; record 3 has a kind that there is not.
-    let file = file(&[&[1, 0, 2], &[2, 0, 10], &[3, 0, 0, 7], &[9]]);
-    assert_refused(&file, 6, 2);
+    let past_the_end = file(&[&[1, 0, 2], &[2, 0, 10], &[3, 0, 0, 7], &[9]]);
+    assert_refused(&past_the_end, 6, 2);
+    // Byte 7 of record 0, byte 2 of record 1.
+    let two = file(&[&[1, 0, 2, 0, 0, 0, 0, 1], &[2, 0, 33], &[3, 0, 0, 3]]);
+    assert_refused_at(&two, RESERVED, 0, 7);
 }

@@ -10,12 +10,14 @@ use native.Mathlib.Nat.{not-suc-le-zero}
 use native.Mathlib.Omega.{arith}
 use lib.ListN.{length}
 use Rattle.record.specs.Records.{byteAt, isField, frameAt, messageAt, fieldAt}
-use Rattle.record.specs.Ranges.{rangeFault}
+use Rattle.record.specs.Ranges.{findingAt, AllRight}
 use Rattle.record.specs.declared.Field.{Field}
+use Rattle.record.proofs.Lowest.{range-right}
 use Rattle.record.proofs.Tests.{to-last, bounded, meanings}
 use Rattle.layout.specs.Verdict.{sizeFault, isFieldOf, fieldsOf, fails, noField, complete, failsAt, refusalAt, judged, verdict}
 use Rattle.layout.specs.WellLaid.{FrameRecord, MessageRecord, FieldRecord, Below, theField, itsMessage, itsFrame, WellLaid}
 use Rattle.layout.specs.declared.Counts.{Counts}
+use Rattle.layout.specs.declared.Refusal.{Refusal}
 use Rattle.layout.specs.declared.Verdict.{Verdict}
 use Rattle.layout.proofs.Tallies.{tally-none, tally-most}
 use Rattle.layout.proofs.Sorted.{
@@ -35,9 +37,9 @@ use Rattle.layout.proofs.Node.{few-frames, few-messages}
 use Rattle.layout.proofs.Faults.{
   Ordered,
   order-clear,
-  frame-clear,
-  message-clear,
-  field-clear,
+  frame-right,
+  message-right,
+  field-right,
   Alike,
   BitsApart,
   no-field-clear,
@@ -54,11 +56,11 @@ plain-passes :
     → (fails s i c ≡ false)
     ↔ ((byteAt s i 0 ≡ 1 → frameAt s i .number ≡ c .frames)
     × (byteAt s i 0 ≡ 2 → messageAt s i .number ≡ c .messages)
-    × (rangeFault s i ≡ false))
+    × AllRight (findingAt s i))
 unfolding fails
 plain-passes s i low rise c =
     let (ref, group, place) = no-field-clear s i c low in
-    simp (meanings, order-clear) (
+    simp (meanings, order-clear, range-right) (
       λ h. search,
       λ (frame, message, range).
           let order : Ordered s i c = record { rises = rise; frame = frame; message = message; field = λ a b k. absurd (omega arith) } in
@@ -81,9 +83,9 @@ below-trans p q r (inr a) (inl b) = inl (omega arith)
 below-trans p q r (inr a) (inr b) = inr (omega arith)
 
 -- of a record that passes, its kind and its bytes
-passing : (s : List ℕ) (i : ℕ) → failsAt s i ≡ false → Rises s i × (rangeFault s i ≡ false)
+passing : (s : List ℕ) (i : ℕ) → failsAt s i ≡ false → Rises s i × AllRight (findingAt s i)
 unfolding failsAt fails
-passing s i e = let ((((order, range), _), _), _) = simp (meanings, order-clear) at e in (order .rises, range)
+passing s i e = let ((((order, range), _), _), _) = simp (meanings, order-clear, range-right) at e in (order .rises, range)
 
 module _ (s : List ℕ) (F M D : ℕ) (w : Kinds s F M D) where
   field-ordered :
@@ -110,8 +112,8 @@ module _ (s : List ℕ) (F M D : ℕ) (w : Kinds s F M D) where
       let kind = w .frames f l in
       rw (before-frame s F M D w f (omega arith))
       (simp (plain-passes s f (omega arith) (rises s F M D w f (omega arith))) (
-        λ (frame, message, range). frame-clear s f f kind .0 (frame kind, range),
-        λ r. (λ k. r .number, omega arith, frame-clear s f f kind .1 r .1),
+        λ (frame, message, range). frame-right s f f kind .0 (frame kind, range),
+        λ r. (λ k. r .number, omega arith, frame-right s f f kind .1 r .1),
       ))
 
   message-passes : (m : ℕ) → m < M → (failsAt s (F + m) ≡ false) ↔ MessageRecord s (F + m) m
@@ -120,8 +122,8 @@ module _ (s : List ℕ) (F M D : ℕ) (w : Kinds s F M D) where
       let kind = w .messages m l in
       rw (before-message s F M D w m (omega arith))
       (simp (plain-passes s (F + m) (omega arith) (rises s F M D w (F + m) (omega arith))) (
-        λ (frame, message, range). message-clear s (F + m) m kind .0 (message kind, range),
-        λ r. (omega arith, λ k. r .number, message-clear s (F + m) m kind .1 r .1),
+        λ (frame, message, range). message-right s (F + m) m kind .0 (message kind, range),
+        λ r. (omega arith, λ k. r .number, message-right s (F + m) m kind .1 r .1),
       ))
 
   field-passes :
@@ -136,7 +138,7 @@ module _ (s : List ℕ) (F M D : ℕ) (w : Kinds s F M D) where
         meanings,
         order-clear,
         field-ordered d l,
-        field-clear s i kind,
+        Iff·trans (range-right s i) (field-right s i kind),
         ref-clear s i c kind,
         group-clear s i c kind,
         place-clear s i c kind (ones d l) (earlier (λ k. fieldAt s k .status ≤ 1) .1 (λ e b. ones e (omega arith))),
@@ -187,7 +189,7 @@ module _ (s : List ℕ) (F M D : ℕ) (w : Kinds s F M D) where
       }
     where
       ones : (e : ℕ) → e < D → theField s F M e .status ≤ 1
-      ones e l = field-clear s (F + M + e) (w .fields e l) .0 (passing s (F + M + e) (passes (F + M + e) (omega arith)) .1) .0
+      ones e l = field-right s (F + M + e) (w .fields e l) .0 (passing s (F + M + e) (passes (F + M + e) (omega arith)) .1) .0
 
       next : (d : ℕ) → d < D → NextField s F M d
       next d l = field-passes ones d l .0 (passes (F + M + d) (omega arith))
@@ -216,7 +218,7 @@ module _ (s : List ℕ) (F M D : ℕ) (w : WellLaid s F M D) where
 -- ---- the verdict
 
 not-refused :
-    (b : Bool) (n r F M D : ℕ) (v : Verdict)
+    (b : Bool) (n : Refusal) (r F M D : ℕ) (v : Verdict)
     → (cond b (Verdict.Refused n r) v ≡ Verdict.Accepted F M D) ↔ ((b ≡ false) × (v ≡ Verdict.Accepted F M D))
 not-refused true n r F M D v = (λ e. absurd (let z : _≡_ {A = ℕ} 0 1 = cc in omega arith), λ h. absurd (true≢false (h .0)))
 not-refused false n r F M D v = (λ e. (refl, e), λ h. h .1)

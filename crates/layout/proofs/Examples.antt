@@ -1,14 +1,16 @@
--- A table of files and their verdicts, checked by computing: the paper's example, the empty file, and for each refusal files that earn it.
+-- A table of files and their verdicts, checked by computing: the paper's example, the empty file, for each refusal files that earn it, and for each kind
+-- of record what a wrong byte earns, byte by byte.
 -- Assumes nothing.
-use mathlib.Core.Path.{_≡_, refl}
+use mathlib.Core.Path.{_≡_, refl, ap}
 use mathlib.Core.List.{List, [], _∷_, _++_, map}
-use Prim.Native.Nat.{ℕ, zero, suc, _-_}
-use lib.ListN.{length, replicate}
+use Prim.Native.Nat.{ℕ, zero, suc, _+_, _-_}
+use lib.ListN.{length, getD, replicate, set}
 use Rattle.packing.specs.Values.{isWidth, extend, extended}
 use Rattle.record.specs.Numbers.{tally, anyBelow, leastBelow}
 use Rattle.record.specs.Records.{byteAt, wordAt, isFrame, isMessage, isField, frameAt, messageAt, fieldAt, pairBelow}
-use Rattle.record.specs.Ranges.{wordFault, faultOf, rangeFaultAt, rangeFault}
+use Rattle.record.specs.Ranges.{wrongIf, wordFinding, frameFinding, messageFinding, fieldFinding, findingOf, findingAt, wrongAt, lowestFault, rangeFault}
 use Rattle.record.specs.Runs.{pastEnd, meet, clash}
+use Rattle.record.specs.declared.Fault.{Fault}
 use Rattle.layout.specs.Counts.{countsBefore}
 use Rattle.layout.specs.Verdict.{
   sizeFault,
@@ -20,6 +22,7 @@ use Rattle.layout.specs.Verdict.{
   clashAt,
   placeFault,
   fails,
+  refusalOf,
   noField,
   complete,
   failsAt,
@@ -27,6 +30,7 @@ use Rattle.layout.specs.Verdict.{
   judged,
   verdict,
 }
+use Rattle.layout.specs.declared.Refusal.{Refusal}
 use Rattle.layout.specs.declared.Verdict.{Verdict}
 
 -- a record: its first bytes, and zeros to 24
@@ -56,6 +60,15 @@ fields : ℕ → List ℕ
 fields zero = []
 fields (suc n) = fields n ++ field n 0
 
+-- n messages of one bit
+messages : ℕ → List ℕ
+messages zero = []
+messages (suc n) = messages n ++ filled (2 ∷ n ∷ 1 ∷ [])
+
+-- record r is refused for this byte
+abbrev wrong : ℕ → Fault → ℕ → Verdict
+wrong r fault k = Verdict.Refused (Refusal.Byte fault k) r
+
 pub record Row : Type 0 where
   pub file : List ℕ
   pub answer : Verdict
@@ -63,46 +76,109 @@ pub record Row : Type 0 where
 row : List ℕ → Verdict → Row
 row f v = record { file = f; answer = v }
 
+-- ---- a wrong byte
+
+-- n numbers from a on
+from : ℕ → ℕ → List ℕ
+from a zero = []
+from a (suc n) = a ∷ from (a + 1) n
+
+-- a frame, a message of one bit with this filter, and a field of it
+small : ℕ → List ℕ
+small filter = frame 0 2 ++ filled (2 ∷ 0 ∷ 1 ∷ 0 ∷ 0 ∷ 0 ∷ filter ∷ []) ++ field 0 3
+
+-- the file with byte k changed to 255, then the one with the byte after it, and on, with these answers
+each-byte : List ℕ → ℕ → List Verdict → List Row
+each-byte s k [] = []
+each-byte s k (v ∷ l) = row (set s k 255) v ∷ each-byte s (k + 1) l
+
+-- kind and number are ORDER's; bytes 2 to 5 have ranges, and the rest is reserved
+frame-answers : List Verdict
+frame-answers = replicate 2 (Verdict.Refused Refusal.Order 0) ++ map (wrong 0 Fault.Range) (from 2 4) ++ map (wrong 0 Fault.Reserved) (from 6 18)
+
+-- bytes 2 to 6 have ranges, and a word's byte is its first
+message-answers : Fault → List Verdict
+message-answers word =
+    replicate 2 (Verdict.Refused Refusal.Order 1)
+    ++ map (wrong 1 Fault.Range) (from 2 5)
+    ++ map (wrong 1 Fault.Reserved) (from 7 1)
+    ++ replicate 4 (wrong 1 word 8)
+    ++ replicate 4 (wrong 1 word 12)
+    ++ replicate 4 (wrong 1 Fault.Width 16)
+    ++ map (wrong 1 Fault.Reserved) (from 20 4)
+
+-- message and frame are REF's, the start bit is PLACE's; no status bit is present, so byte 5 is 0
+field-answers : List Verdict
+field-answers =
+    replicate 1 (Verdict.Refused Refusal.Order 2)
+    ++ replicate 2 (Verdict.Refused Refusal.Ref 2)
+    ++ replicate 1 (Verdict.Refused Refusal.Place 2)
+    ++ map (wrong 2 Fault.Range) (from 4 2)
+    ++ map (wrong 2 Fault.Reserved) (from 6 18)
+
+-- filter 0 uses neither x1 nor x2, and UNUSED comes before WIDTH; filter 2 uses both
+byte-rows : List Row
+byte-rows =
+    each-byte (small 0) 0 frame-answers
+    ++ each-byte (small 0) 24 (message-answers Fault.Unused)
+    ++ each-byte (small 2) 24 (message-answers Fault.Width)
+    ++ each-byte (small 0) 48 field-answers
+
+-- ---- the table
+
 pub rows : List Row
 rows =
     row paper (Verdict.Accepted 1 1 1)
     ∷ row [] (Verdict.Accepted 0 0 0)
     -- SIZE: one byte; 193 records
-    ∷ row (1 ∷ []) (Verdict.Refused 1 0)
-    ∷ row (replicate 4632 0) (Verdict.Refused 1 0)
+    ∷ row (1 ∷ []) (Verdict.Refused Refusal.Size 0)
+    ∷ row (replicate 4632 0) (Verdict.Refused Refusal.Size 0)
     -- ORDER: a frame after a message; a field twice
-    ∷ row (message 10 ++ frame 0 2) (Verdict.Refused 2 1)
-    ∷ row (frame 0 2 ++ message 10 ++ field 0 3 ++ field 0 3) (Verdict.Refused 2 3)
-    -- RANGE: a frame of no bytes; an x2 with filter 7, which uses x1 alone; 1,024 as the initial value of 10 bits
-    ∷ row (frame 0 2 ++ frame 1 0) (Verdict.Refused 3 1)
-    ∷ row (filled (2 ∷ 0 ∷ 10 ∷ 0 ∷ 0 ∷ 0 ∷ 7 ∷ 0 ∷ 1 ∷ 0 ∷ 0 ∷ 0 ∷ 1 ∷ [])) (Verdict.Refused 3 0)
-    ∷ row (filled (2 ∷ 0 ∷ 10 ∷ 0 ∷ 0 ∷ 0 ∷ 0 ∷ 0 ∷ 0 ∷ 0 ∷ 0 ∷ 0 ∷ 0 ∷ 0 ∷ 0 ∷ 0 ∷ 0 ∷ 4 ∷ [])) (Verdict.Refused 3 0)
+    ∷ row (message 10 ++ frame 0 2) (Verdict.Refused Refusal.Order 1)
+    ∷ row (frame 0 2 ++ message 10 ++ field 0 3 ++ field 0 3) (Verdict.Refused Refusal.Order 3)
+    -- RANGE: a frame of no bytes; frame 32, message 32; a sent message with an agreement
+    ∷ row (frame 0 2 ++ frame 1 0) (wrong 1 Fault.Range 2)
+    ∷ row (frames 33) (wrong 32 Fault.Range 1)
+    ∷ row (messages 33) (wrong 32 Fault.Range 1)
+    ∷ row (filled (2 ∷ 0 ∷ 10 ∷ 0 ∷ 1 ∷ 2 ∷ [])) (wrong 0 Fault.Range 5)
+    -- UNUSED: an x2 with filter 7, which uses x1 alone
+    ∷ row (filled (2 ∷ 0 ∷ 10 ∷ 0 ∷ 0 ∷ 0 ∷ 7 ∷ 0 ∷ 1 ∷ 0 ∷ 0 ∷ 0 ∷ 1 ∷ [])) (wrong 0 Fault.Unused 12)
+    -- WIDTH: 1,024 as the initial value of 10 bits; 511 and 512 as x2 of 10 signed bits
+    ∷ row (filled (2 ∷ 0 ∷ 10 ∷ 0 ∷ 0 ∷ 0 ∷ 0 ∷ 0 ∷ 0 ∷ 0 ∷ 0 ∷ 0 ∷ 0 ∷ 0 ∷ 0 ∷ 0 ∷ 0 ∷ 4 ∷ [])) (wrong 0 Fault.Width 16)
+    ∷ row (filled (2 ∷ 0 ∷ 10 ∷ 1 ∷ 0 ∷ 0 ∷ 8 ∷ 0 ∷ 0 ∷ 0 ∷ 0 ∷ 0 ∷ 255 ∷ 1 ∷ [])) (Verdict.Refused Refusal.NoField 0)
+    ∷ row (filled (2 ∷ 0 ∷ 10 ∷ 1 ∷ 0 ∷ 0 ∷ 8 ∷ 0 ∷ 0 ∷ 0 ∷ 0 ∷ 0 ∷ 0 ∷ 2 ∷ [])) (wrong 0 Fault.Width 12)
+    -- the lowest decides: RANGE at 3 before RESERVED at 7; RESERVED at 7 before UNUSED at 8; WIDTH at 8 before UNUSED at 12
+    ∷ row (filled (2 ∷ 0 ∷ 10 ∷ 2 ∷ 0 ∷ 0 ∷ 0 ∷ 1 ∷ [])) (wrong 0 Fault.Range 3)
+    ∷ row (filled (2 ∷ 0 ∷ 10 ∷ 0 ∷ 0 ∷ 0 ∷ 0 ∷ 1 ∷ 1 ∷ [])) (wrong 0 Fault.Reserved 7)
+    ∷ row (filled (2 ∷ 0 ∷ 10 ∷ 0 ∷ 0 ∷ 0 ∷ 6 ∷ 0 ∷ 0 ∷ 4 ∷ 0 ∷ 0 ∷ 1 ∷ [])) (wrong 0 Fault.Width 8)
     -- REF: a field of no message; a sent message in a received frame
-    ∷ row (frame 0 2 ++ field 0 3) (Verdict.Refused 4 1)
-    ∷ row (frame 0 2 ++ filled (2 ∷ 0 ∷ 10 ∷ 0 ∷ 1 ∷ []) ++ field 0 3) (Verdict.Refused 4 2)
+    ∷ row (frame 0 2 ++ field 0 3) (Verdict.Refused Refusal.Ref 1)
+    ∷ row (frame 0 2 ++ filled (2 ∷ 0 ∷ 10 ∷ 0 ∷ 1 ∷ []) ++ field 0 3) (Verdict.Refused Refusal.Ref 2)
     -- GROUP: eight fields of a message, and nine; a sent message with filter 1 and no status bit
     ∷ row (frames 9 ++ message 10 ++ fields 8) (Verdict.Accepted 9 1 8)
-    ∷ row (frames 9 ++ message 10 ++ fields 9) (Verdict.Refused 5 18)
-    ∷ row (filled (1 ∷ 0 ∷ 2 ∷ 0 ∷ 1 ∷ []) ++ filled (2 ∷ 0 ∷ 10 ∷ 0 ∷ 1 ∷ 0 ∷ 1 ∷ []) ++ field 0 3) (Verdict.Refused 5 2)
+    ∷ row (frames 9 ++ message 10 ++ fields 9) (Verdict.Refused Refusal.Group 18)
+    ∷ row (filled (1 ∷ 0 ∷ 2 ∷ 0 ∷ 1 ∷ []) ++ filled (2 ∷ 0 ∷ 10 ∷ 0 ∷ 1 ∷ 0 ∷ 1 ∷ []) ++ field 0 3) (Verdict.Refused Refusal.Group 2)
     -- PLACE: 32 bits at the end of a frame, and one past it; a status bit among the field's own
     ∷ row (frame 0 32 ++ message 32 ++ field 0 224) (Verdict.Accepted 1 1 1)
-    ∷ row (frame 0 32 ++ message 32 ++ field 0 225) (Verdict.Refused 6 2)
-    ∷ row (frame 0 2 ++ message 10 ++ filled (3 ∷ 0 ∷ 0 ∷ 3 ∷ 1 ∷ 12 ∷ [])) (Verdict.Refused 6 2)
+    ∷ row (frame 0 32 ++ message 32 ++ field 0 225) (Verdict.Refused Refusal.Place 2)
+    ∷ row (frame 0 2 ++ message 10 ++ filled (3 ∷ 0 ∷ 0 ∷ 3 ∷ 1 ∷ 12 ∷ [])) (Verdict.Refused Refusal.Place 2)
     -- NOFIELD
-    ∷ row (frame 0 2 ++ message 10) (Verdict.Refused 7 1)
-    ∷ []
+    ∷ row (frame 0 2 ++ message 10) (Verdict.Refused Refusal.NoField 1)
+    ∷ byte-rows
 
 pub examples : map (λ r. verdict (r .file)) rows ≡ map (λ r. r .answer) rows
 unfolding
-    rows row frame message field frames fields filled
+    rows row frame message field frames fields messages filled
+    from small each-byte frame-answers message-answers field-answers byte-rows
     extended isWidth extend
     tally anyBelow leastBelow
     byteAt wordAt isFrame isMessage isField frameAt messageAt fieldAt countsBefore
-    sizeFault pairBelow orderFault wordFault faultOf rangeFaultAt rangeFault refFault isFieldOf unlike groupFault
-    pastEnd meet clash clashAt placeFault fails noField complete failsAt refusalAt judged verdict
+    wrongIf wordFinding frameFinding messageFinding fieldFinding findingOf findingAt wrongAt lowestFault rangeFault
+    sizeFault pairBelow orderFault refFault isFieldOf unlike groupFault
+    pastEnd meet clash clashAt placeFault fails refusalOf noField complete failsAt refusalAt judged verdict
 examples = refl
 
 -- the first row
 pub paper-accepted : verdict paper ≡ Verdict.Accepted 1 1 1
 unfolding rows row
-paper-accepted = cc examples
+paper-accepted = ap (λ (l : List Verdict). getD l 0 (Verdict.Accepted 0 0 0)) examples

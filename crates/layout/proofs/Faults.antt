@@ -2,7 +2,7 @@
 -- record/proofs/Tests.antt, and the parts of what they say are put into the records of specs/WellLaid.antt by search.
 -- Assumes nothing.
 use mathlib.Core.Path.{_≡_, refl, ap}
-use mathlib.Core.Bool.{Bool, true, false, not, _&&_}
+use mathlib.Core.Bool.{Bool, true, false, cond, _&&_, true≢false}
 use mathlib.Core.List.{List}
 use mathlib.Core.Logic.{_↔_, Iff·rfl, ⊎-map}
 use Prim.Native.Nat.{ℕ, _+_, _-_, _*_, _<_, _≤_}
@@ -13,12 +13,29 @@ use lib.ListN.{length, getD}
 use lib.Seq.{getD-set-other}
 use borrow.Author.Tests.{ne-eqb}
 use Rattle.record.specs.Records.{byteAt, isFrame, isMessage, isField, frameAt, messageAt, fieldAt, pairBelow}
-use Rattle.record.specs.Ranges.{wordFault, frameFaults, messageFaults, fieldFaults, faultOf, rangeFaultAt, rangeFault}
+use Rattle.record.specs.Ranges.{
+  wrongIf,
+  wordFinding,
+  frameFindings,
+  messageFindings,
+  fieldFindings,
+  frameFinding,
+  messageFinding,
+  fieldFinding,
+  findingOf,
+  nonzeroAt,
+  findingAt,
+  isWrong,
+  AllRight,
+}
 use Rattle.record.specs.Runs.{clash}
 use Rattle.record.specs.declared.Frame.{Frame}
 use Rattle.record.specs.declared.Message.{Message}
 use Rattle.record.specs.declared.Field.{Field}
-use Rattle.record.proofs.Tests.{or-holds, meanings, Clear, list-clear}
+use Rattle.record.specs.declared.Fault.{Fault}
+use Rattle.record.specs.declared.Finding.{Finding}
+use Rattle.record.proofs.Lowest.{wrong-if-right, Right, list-right}
+use Rattle.record.proofs.Tests.{or-holds, meanings}
 use Rattle.layout.specs.Counts.{frameNumbered, messageNumbered}
 use Rattle.layout.specs.Verdict.{orderFault, refFault, isFieldOf, fieldsOf, unlike, groupFault, clashAt, placeFault}
 use Rattle.layout.specs.WellLaid.{ZeroFrom, FrameRecord, Word, MessageRecord, UsesForMessage, UsesForStatus, Uses, Below}
@@ -47,53 +64,64 @@ pub order-clear : (s : List ℕ) (i : ℕ) (c : Counts) → (orderFault s i c �
 unfolding orderFault isFrame isMessage isField frameAt messageAt
 order-clear s i c = simp (meanings, below-holds) (λ h. search arith, λ o. search arith)
 
--- ---- 3 RANGE
+-- ---- 3 RANGE, 8 RESERVED, 9 UNUSED and 10 WIDTH
 
 -- a byte of which nothing is said
-nothing-said : (A : Type 0) → ((false ≡ false) × A) ↔ A
+nothing-said : (A : Type 0) → ((Finding.Right ≡ Finding.Right) × A) ↔ A
 nothing-said A = (λ h. h .1, λ a. (refl, a))
 
-word-clear : (g : Message) (used : Bool) (x : ℕ) → (wordFault g used x ≡ false) ↔ Word g used x
-unfolding wordFault
-word-clear g used x = simp meanings (λ h. search, λ w. search)
+-- a fault where the test holds, or what comes next
+first-right :
+    (wrong : Bool) (fault : Fault) (next : Finding)
+    → (cond wrong (Finding.Wrong fault) next ≡ Finding.Right) ↔ ((wrong ≡ false) × (next ≡ Finding.Right))
+first-right true fault next = (λ e. absurd (true≢false (ap isWrong e)), λ h. absurd (true≢false (h .0)))
+first-right false fault next = (λ e. (refl, e), λ h. h .1)
 
--- of the bytes that are not named, byte 7 alone stands in the list of a message's faults
-byte-seven : (g : Message) (other : ℕ → Bool) (k : ℕ) → getD (messageFaults g (other k)) k (other k) ≡ getD (messageFaults g (other 7)) k (other k)
+word-right : (g : Message) (used : Bool) (x : ℕ) → (wordFinding g used x ≡ Finding.Right) ↔ Word g used x
+unfolding wordFinding
+word-right g used x = simp (first-right, wrong-if-right, meanings) (λ h. search, λ w. search)
+
+-- of the bytes that are not named, byte 7 alone stands in the list of what is found in a message
+byte-seven :
+    (g : Message) (other : ℕ → Bool) (k : ℕ)
+    → getD (messageFindings g (other k)) k (wrongIf (other k) Fault.Reserved) ≡ getD (messageFindings g (other 7)) k (wrongIf (other k) Fault.Reserved)
 byte-seven g other k = go (ℕ-discrete k 7)
   where
-    go : Dec (k ≡ 7) → getD (messageFaults g (other k)) k (other k) ≡ getD (messageFaults g (other 7)) k (other k)
-    go (yes e) = rw e (ap other e)
-    go (no n) = getD-set-other (messageFaults g (other 7)) 7 k (other k) (other k) n
+    go :
+        Dec (k ≡ 7)
+        → getD (messageFindings g (other k)) k (wrongIf (other k) Fault.Reserved)
+        ≡ getD (messageFindings g (other 7)) k (wrongIf (other k) Fault.Reserved)
+    go (yes e) = rw e (ap (λ j. wrongIf (other j) Fault.Reserved) e)
+    go (no n) =
+        getD-set-other (messageFindings g (other 7)) 7 k (wrongIf (other k) Fault.Reserved) (wrongIf (other k) Fault.Reserved) n
 
 module _ (s : List ℕ) (i : ℕ) where
-  -- byte k is not zero
-  abbrev other : ℕ → Bool
-  other k = not (eqb (byteAt s i k) 0)
+  -- where l lists what is found at a record's bytes
+  bytes-right :
+      (l : List Finding) → length l ≤ 24 → ((k : ℕ) → findingAt s i k ≡ getD l k (wrongIf (nonzeroAt s i k) Fault.Reserved))
+      → AllRight (findingAt s i) ↔ (Right 0 l × ZeroFrom (length l) s i)
+  bytes-right l few listed =
+      simp (listed, list-right l (λ k. wrongIf (nonzeroAt s i k) Fault.Reserved) 24 few, wrong-if-right, meanings) Iff·rfl
 
-  -- where l lists the faults of a record's bytes
-  bytes-clear :
-      (l : List Bool) → length l ≤ 24 → ((k : ℕ) → rangeFaultAt s i k ≡ getD l k (other k))
-      → (rangeFault s i ≡ false) ↔ (Clear l × ZeroFrom (length l) s i)
-  unfolding rangeFault
-  bytes-clear l few listed = simp (meanings, listed, list-clear l other 24 few) Iff·rfl
+  pub frame-right : (f : ℕ) → byteAt s i 0 ≡ 1 → ((frameAt s i .number ≡ f) × AllRight (findingAt s i)) ↔ FrameRecord s i f
+  unfolding findingAt findingOf frameFinding
+  frame-right f kind =
+      let listed = bytes-right (frameFindings (frameAt s i)) (omega arith) (λ k. rw kind refl) in
+      simp (listed, nothing-said, wrong-if-right, meanings) (λ h. search arith, λ w. search arith)
 
-  pub frame-clear : (f : ℕ) → byteAt s i 0 ≡ 1 → ((frameAt s i .number ≡ f) × (rangeFault s i ≡ false)) ↔ FrameRecord s i f
-  unfolding rangeFaultAt faultOf
-  frame-clear f kind =
-      simp (bytes-clear (frameFaults (frameAt s i)) (omega arith) (λ k. rw kind refl), nothing-said, meanings) (λ h. search arith, λ w. search arith)
+  pub message-right : (m : ℕ) → byteAt s i 0 ≡ 2 → ((messageAt s i .number ≡ m) × AllRight (findingAt s i)) ↔ MessageRecord s i m
+  unfolding findingAt findingOf messageFinding
+  message-right m kind =
+      let listed = bytes-right (messageFindings (messageAt s i) (nonzeroAt s i 7)) (omega arith) (λ k. rw kind (byte-seven (messageAt s i) (nonzeroAt s i) k)) in
+      simp (listed, nothing-said, word-right, wrong-if-right, meanings) (λ h. search arith depth 20, λ w. search arith depth 20)
 
-  pub message-clear : (m : ℕ) → byteAt s i 0 ≡ 2 → ((messageAt s i .number ≡ m) × (rangeFault s i ≡ false)) ↔ MessageRecord s i m
-  unfolding rangeFaultAt faultOf
-  message-clear m kind =
-      let listed = bytes-clear (messageFaults (messageAt s i) (other 7)) (omega arith) (λ k. rw kind (byte-seven (messageAt s i) other k)) in
-      simp (listed, nothing-said, word-clear, meanings) (λ h. search arith depth 20, λ w. search arith depth 20)
-
-  pub field-clear :
+  pub field-right :
       byteAt s i 0 ≡ 3
-      → (rangeFault s i ≡ false) ↔ ((fieldAt s i .status ≤ 1) × (fieldAt s i .status ≡ 0 → fieldAt s i .place ≡ 0) × ZeroFrom 6 s i)
-  unfolding rangeFaultAt faultOf
-  field-clear kind =
-      simp (bytes-clear (fieldFaults (fieldAt s i)) (omega arith) (λ k. rw kind refl), nothing-said, meanings) (λ h. search arith, λ w. search arith)
+      → AllRight (findingAt s i) ↔ ((fieldAt s i .status ≤ 1) × (fieldAt s i .status ≡ 0 → fieldAt s i .place ≡ 0) × ZeroFrom 6 s i)
+  unfolding findingAt findingOf fieldFinding
+  field-right kind =
+      let listed = bytes-right (fieldFindings (fieldAt s i)) (omega arith) (λ k. rw kind refl) in
+      simp (listed, nothing-said, wrong-if-right, meanings) (λ h. search arith, λ w. search arith)
 
 -- ---- 4 REF, 5 GROUP and 6 PLACE
 

@@ -1,7 +1,9 @@
 pub mod Accepted
+pub mod Claims
 pub mod Examples
 pub mod Faults
 pub mod Node
+pub mod Numbers
 pub mod Reading
 pub mod Refused
 pub mod Runs

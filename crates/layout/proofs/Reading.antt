@@ -19,19 +19,20 @@ use Rattle.record.proofs.Tests.{and-holds}
 use Rattle.layout.specs.Counts.{countsBefore, countedBy}
 use Rattle.layout.specs.Verdict.{orderFault, fails, readAt, failsAt, refusalAt, judged}
 use Rattle.layout.specs.declared.Counts.{Counts}
+use Rattle.layout.specs.declared.Refusal.{Refusal}
 use Rattle.layout.specs.declared.Read.{Read}
 use Rattle.layout.specs.declared.Verdict.{Verdict}
 use Rattle.layout.proofs.Tallies.{tally-within}
 
 -- ---- what a reading says of the tests
 
-record-passes : (b : Bool) (k : ℕ) (q r : Record) → cond b (Read.Refused k) (Read.Record q) ≡ Read.Record r → b ≡ false
-record-passes true k q r e = cc
-record-passes false k q r e = refl
+record-passes : (b : Bool) (n : Refusal) (q r : Record) → cond b (Read.Refused n) (Read.Record q) ≡ Read.Record r → b ≡ false
+record-passes true n q r e = cc
+record-passes false n q r e = refl
 
-refused-fails : (b : Bool) (k m : ℕ) (q : Record) → cond b (Read.Refused k) (Read.Record q) ≡ Read.Refused m → (b ≡ true) × (k ≡ m)
-refused-fails true k m q e = (refl, cc)
-refused-fails false k m q e = (cc, cc)
+refused-fails : (b : Bool) (n m : Refusal) (q : Record) → cond b (Read.Refused n) (Read.Record q) ≡ Read.Refused m → (b ≡ true) × (n ≡ m)
+refused-fails true n m q e = (refl, cc)
+refused-fails false n m q e = (cc, cc)
 
 -- ---- the three kinds
 
@@ -94,7 +95,7 @@ module _ (s : List ℕ) where
           let kind = three-kinds (byteAt s i 0) (kind-tested _ refl passes) in
           record { passes = passes; counts = rw (counted, read, before, passes) (counts-more kind) }
 
-      pub refused : {m : ℕ} (n : ℕ) → x ≡ Read.Refused m → anyBelow (failsAt s) i ≡ false → i < n → Verdict.Refused m i ≡ judged s n
+      pub refused : {m : Refusal} (n : ℕ) → x ≡ Read.Refused m → anyBelow (failsAt s) i ≡ false → i < n → Verdict.Refused m i ≡ judged s n
       unfolding readAt failsAt refusalAt judged
       refused {m} n e none l =
           let failing = refused-fails (fails s i c) _ m (recordAt s i) (sym read ∙ e) in

@@ -1,4 +1,6 @@
+pub mod Claims
 pub mod Counts
+pub mod Numbers
 pub mod Refusals
 pub mod Verdict
 pub mod WellLaid

@@ -1,19 +1,21 @@
 -- What each layout refusal says, and the verdict on a file. Each refusal is a list of faults, one for each clause of the paper's table, in its
--- order; RANGE looks at one record only, and stands in record/specs/Ranges.antt. Of record i, c counts the records before it.
+-- order; RANGE, RESERVED, UNUSED and WIDTH look at one record only, and stand in record/specs/Ranges.antt. Of record i, c counts the records before it.
 -- Assumes nothing.
 use mathlib.Core.Bool.{Bool, not, cond, _&&_}
 use mathlib.Core.List.{List, [], _∷_}
 use Prim.Native.Nat.{ℕ, _+_, _-_, _/_, _%_}
 use lib.Dec.{eqb, ltb, leb}
 use lib.ListN.{length}
-use Rattle.record.specs.Numbers.{within, tally, anyBelow, leastBelow, oneOf, firstOf}
+use Rattle.record.specs.Numbers.{within, tally, anyBelow, leastBelow, oneOf}
 use Rattle.record.specs.Records.{byteAt, isFrame, isMessage, isField, fieldAt, recordAt, pairBelow}
-use Rattle.record.specs.Ranges.{rangeFault}
+use Rattle.record.specs.Ranges.{rangeFault, isFault}
 use Rattle.record.specs.Runs.{messageRun, statusRun, pastEnd, meet, clash}
 use Rattle.record.specs.declared.Message.{Message}
 use Rattle.record.specs.declared.Field.{Field}
+use Rattle.record.specs.declared.RangeFault.{RangeFault}
 use Rattle.layout.specs.Counts.{countsBefore, frameNumbered, messageNumbered}
 use Rattle.layout.specs.declared.Counts.{Counts}
+use Rattle.layout.specs.declared.Refusal.{Refusal}
 use Rattle.layout.specs.declared.Read.{Read}
 use Rattle.layout.specs.declared.Verdict.{Verdict}
 
@@ -97,17 +99,27 @@ placeFault s i c =
 
 -- ---- reading a record
 
--- the tests 2 to 6, in that order
-abbrev pub tests : List ℕ → ℕ → Counts → List Bool
-tests s i c = orderFault s i c ∷ rangeFault s i ∷ refFault s i c ∷ groupFault s i c ∷ placeFault s i c ∷ []
-
--- record i fails one of them
+-- record i fails one of the tests
 unfoldable pub fails : List ℕ → ℕ → Counts → Bool
-fails s i c = oneOf (tests s i c)
+fails s i c = oneOf (orderFault s i c ∷ isFault (rangeFault s i) ∷ refFault s i c ∷ groupFault s i c ∷ placeFault s i c ∷ [])
 
--- and the first that it fails decides
+-- what is wrong at a byte, or what comes next
+abbrev pub byteOr : RangeFault → Refusal → Refusal
+byteOr RangeFault.None next = next
+byteOr (RangeFault.At fault k) next = Refusal.Byte fault k
+
+-- the first that it fails decides: 2, then 3 and 8 to 10, then 4, 5, 6
+unfoldable pub refusalOf : List ℕ → ℕ → Counts → Refusal
+refusalOf s i c =
+    cond (orderFault s i c) Refusal.Order
+    (byteOr (rangeFault s i)
+    (cond (refFault s i c) Refusal.Ref
+    (cond (groupFault s i c) Refusal.Group
+    Refusal.Place)))
+
+-- reading record i answers that refusal, or the record
 unfoldable pub readAt : List ℕ → ℕ → Counts → Read
-readAt s i c = cond (fails s i c) (Read.Refused (firstOf 2 (tests s i c))) (Read.Record (recordAt s i))
+readAt s i c = cond (fails s i c) (Read.Refused (refusalOf s i c)) (Read.Record (recordAt s i))
 
 -- ---- 7 NOFIELD
 
@@ -119,7 +131,7 @@ noField s n m = eqb (fieldsOf s m n) 0
 unfoldable pub complete : List ℕ → ℕ → Counts → Verdict
 complete s n c =
     cond (anyBelow (noField s n) (c .messages))
-    (Verdict.Refused 7 (c .frames + leastBelow (noField s n) (c .messages)))
+    (Verdict.Refused Refusal.NoField (c .frames + leastBelow (noField s n) (c .messages)))
     (Verdict.Accepted (c .frames) (c .messages) (c .fields))
 
 -- ---- the verdict
@@ -129,7 +141,7 @@ failsAt s i = fails s i (countsBefore s i)
 
 -- the refusal of a record that fails
 unfoldable pub refusalAt : List ℕ → ℕ → Verdict
-refusalAt s i = Verdict.Refused (firstOf 2 (tests s i (countsBefore s i))) i
+refusalAt s i = Verdict.Refused (refusalOf s i (countsBefore s i)) i
 
 -- of n records the first that fails decides; where none does, NOFIELD is left
 unfoldable pub judged : List ℕ → ℕ → Verdict
@@ -137,4 +149,4 @@ judged s n = cond (anyBelow (failsAt s) n) (refusalAt s (leastBelow (failsAt s) 
 
 -- SIZE comes first, with record 0
 unfoldable pub verdict : List ℕ → Verdict
-verdict s = cond (sizeFault s) (Verdict.Refused 1 0) (judged s (length s / 24))
+verdict s = cond (sizeFault s) (Verdict.Refused Refusal.Size 0) (judged s (length s / 24))

@@ -1,9 +1,10 @@
-// The layout reader: a file is accepted, or refused with a number and a record. An accepted file is its own store, so no table is kept.
+// The layout reader: a file is accepted, or refused with a record. An accepted file is its own store, so no table is kept.
 ghost use mathlib.Core.Path.{_≡_};
 ghost use mathlib.Core.Bool.{cond};
 ghost use Prim.Native.Nat.{_-_, _≤_};
 ghost use Rattle.record.specs.Numbers.{anyBelow};
 ghost use Rattle.layout.specs.Counts.{countedBy};
+ghost use Rattle.layout.specs.Numbers.{faultNumber, numberOf, byteOf};
 ghost use Rattle.layout.specs.Verdict.{
   orderFault,
   refFault,
@@ -18,8 +19,10 @@ ghost use Rattle.layout.specs.Verdict.{
   judged,
   verdict,
 };
+use record::Fault;
 use record::Field;
 use record::Message;
+use record::RangeFault;
 use record::Record;
 
 // How many records of each kind there are.
@@ -29,10 +32,21 @@ pub struct Counts {
     pub fields: usize,
 }
 
+// Why a file is refused; where it is a byte of the record, the lowest that is wrong.
+pub enum Refusal {
+    Size,
+    Order,
+    Byte { fault: Fault, byte: u8 },
+    Ref,
+    Group,
+    Place,
+    NoField,
+}
+
 // What reading a record answers.
 pub enum Read {
     Record(Record),
-    Refused(u8),
+    Refused(Refusal),
 }
 
 // What reading a file answers.
@@ -43,9 +57,51 @@ pub enum Verdict {
         fields: usize,
     },
     Refused {
-        number: u8,
+        refusal: Refusal,
         record: usize,
     },
+}
+
+// ---- the refusals' numbers
+
+fn fault_number(fault: Fault) -> u8
+    ensures { λ r. ⌜ r ≡ faultNumber fault ⌝ }
+{
+    match fault {
+        Fault::Range => 3,
+        Fault::Reserved => 8,
+        Fault::Unused => 9,
+        Fault::Width => 10,
+    }
+}
+
+pub fn number_of(refusal: Refusal) -> u8
+    ensures { λ r. ⌜ r ≡ numberOf refusal ⌝ }
+{
+    match refusal {
+        Refusal::Size => 1,
+        Refusal::Order => 2,
+        Refusal::Byte { fault, byte: _ } => fault_number(fault),
+        Refusal::Ref => 4,
+        Refusal::Group => 5,
+        Refusal::Place => 6,
+        Refusal::NoField => 7,
+    }
+}
+
+// The byte that a refusal gives, or 0: byte 0 holds the kind, which ORDER tests.
+pub fn byte_of(refusal: Refusal) -> u8
+    ensures { λ r. ⌜ r ≡ byteOf refusal ⌝ }
+{
+    match refusal {
+        Refusal::Byte { fault: _, byte } => byte,
+        Refusal::Size => 0,
+        Refusal::Order => 0,
+        Refusal::Ref => 0,
+        Refusal::Group => 0,
+        Refusal::Place => 0,
+        Refusal::NoField => 0,
+    }
 }
 
 // ---- ORDER
@@ -210,19 +266,19 @@ fn read_record(file: &[u8], i: usize, c: Counts) -> Read
     ensures { λ r. ⌜ r ≡ readAt (now (file .entry)) i c ⌝ }
 {
     if order_fault(file, i, c) {
-        return Read::Refused(2);
+        return Read::Refused(Refusal::Order);
     }
-    if record::range_fault(file, i) {
-        return Read::Refused(3);
+    if let RangeFault::At { fault, byte } = record::range_fault(file, i) {
+        return Read::Refused(Refusal::Byte { fault, byte });
     }
     if ref_fault(file, i, c) {
-        return Read::Refused(4);
+        return Read::Refused(Refusal::Ref);
     }
     if group_fault(file, i, c) {
-        return Read::Refused(5);
+        return Read::Refused(Refusal::Group);
     }
     if place_fault(file, i, c) {
-        return Read::Refused(6);
+        return Read::Refused(Refusal::Place);
     }
     Read::Record(record::record_at(file, i))
 }
@@ -255,7 +311,10 @@ fn complete_file(file: &[u8], n: usize, c: Counts) -> Verdict
     for m in 0..messages {
         if fields_of(file, m as u8, n) == 0 {
             let record = c.frames + m;
-            return Verdict::Refused { number: 7, record };
+            return Verdict::Refused {
+                refusal: Refusal::NoField,
+                record,
+            };
         }
     }
     Verdict::Accepted {
@@ -265,7 +324,7 @@ fn complete_file(file: &[u8], n: usize, c: Counts) -> Verdict
     }
 }
 
-// The verdict on n records: a refusal gives its number and record, and no layout.
+// The verdict on n records: a refusal gives its record, and no layout.
 fn judge(file: &[u8], n: usize) -> Verdict
     requires { ⌜ n ≤ 192 ⌝ }
     ensures { λ v. ⌜ v ≡ judged (now (file .entry)) n ⌝ }
@@ -277,11 +336,11 @@ fn judge(file: &[u8], n: usize) -> Verdict
     };
     for i in 0..n {
         let read = read_record(file, i, c);
-        let Read::Refused(number) = read else {
+        let Read::Refused(refusal) = read else {
             c = c.with(read);
             continue;
         };
-        return Verdict::Refused { number, record: i };
+        return Verdict::Refused { refusal, record: i };
     }
     complete_file(file, n, c)
 }
@@ -292,7 +351,7 @@ pub fn read_layout(file: &[u8]) -> Verdict
 {
     if !(file.len() % 24 == 0) | (4608 < file.len()) {
         return Verdict::Refused {
-            number: 1,
+            refusal: Refusal::Size,
             record: 0,
         };
     }

@@ -6,7 +6,9 @@ use Prim.Native.Nat.{ℕ, zero, suc, _+_, _/_, _%_}
 use lib.Dec.{eqb, ltb}
 use Rattle.record.specs.Records.{messageAt, fieldAt}
 use Rattle.record.specs.declared.Field.{Field}
+use Rattle.layout.specs.Numbers.{numberOf, byteOf}
 use Rattle.layout.specs.Verdict.{verdict}
+use Rattle.layout.specs.declared.Refusal.{Refusal}
 use Rattle.layout.specs.declared.Verdict.{Verdict}
 
 -- a number in decimal: its last digit after those of a tenth of it; the first number only counts the digits down
@@ -49,20 +51,27 @@ heading =
     109 ∷ 101 ∷ 115 ∷ 115 ∷ 97 ∷ 103 ∷ 101 ∷ 32 ∷ 102 ∷ 114 ∷ 97 ∷ 109 ∷ 101 ∷ 32 ∷ 115 ∷ 116 ∷ 97 ∷ 114 ∷ 116 ∷ 32 ∷ 119 ∷ 105 ∷ 100 ∷ 116 ∷ 104
     ∷ 32 ∷ 115 ∷ 116 ∷ 97 ∷ 116 ∷ 117 ∷ 115 ∷ 10 ∷ []
 
--- `refused ` and ` record `
+-- `refused `, ` record ` and ` byte `
 abbrev pub refusedWord : List ℕ
 refusedWord = 114 ∷ 101 ∷ 102 ∷ 117 ∷ 115 ∷ 101 ∷ 100 ∷ 32 ∷ []
 
 abbrev pub recordWord : List ℕ
 recordWord = 32 ∷ 114 ∷ 101 ∷ 99 ∷ 111 ∷ 114 ∷ 100 ∷ 32 ∷ []
 
--- `refused N record R`
-unfoldable pub refusalText : ℕ → ℕ → List ℕ
-refusalText number at = refusedWord ++ (decimal number ++ (recordWord ++ (decimal at ++ newline)))
+abbrev pub byteWord : List ℕ
+byteWord = 32 ∷ 98 ∷ 121 ∷ 116 ∷ 101 ∷ 32 ∷ []
+
+-- ` byte B` where a byte is given: byte 0 never is
+unfoldable pub byteText : ℕ → List ℕ
+byteText byte = cond (eqb byte 0) [] (byteWord ++ decimal byte)
+
+-- `refused N record R` and the byte
+unfoldable pub refusalText : Refusal → ℕ → List ℕ
+refusalText refusal at = refusedWord ++ (decimal (numberOf refusal) ++ (recordWord ++ (decimal at ++ (byteText (byteOf refusal) ++ newline))))
 
 abbrev pub listingOf : List ℕ → Verdict → List ℕ
 listingOf s (Verdict.Accepted F M D) = heading ++ lines s F M D
-listingOf s (Verdict.Refused number at) = refusalText number at
+listingOf s (Verdict.Refused refusal at) = refusalText refusal at
 
 -- what the program prints
 unfoldable pub listing : List ℕ → List ℕ

@@ -2,8 +2,9 @@
 ghost use mathlib.Core.List.{[], _∷_, _++_};
 ghost use Prim.Native.Nat.{_+_, _*_, _<_, _≤_};
 ghost use lib.ListN.{length};
-ghost use Rattle.listing.specs.Text.{decimal, space, statusText, lineOf, lineAt, lines, refusalText, listing};
+ghost use Rattle.listing.specs.Text.{decimal, space, statusText, lineOf, lineAt, lines, byteText, refusalText, listing};
 ghost use Rattle.listing.specs.Put.{Put};
+use layout::Refusal;
 use layout::Verdict;
 use record::Field;
 
@@ -108,15 +109,27 @@ fn put_lines(
     p
 }
 
-fn put_refusal(out: &mut [u8], number: u8, at_record: usize) -> usize
-    requires { ⌜ (23 ≤ length (now out)) × (at_record < 1000) ⌝ }
-    ensures { λ p. ⌜ Put (now (out .entry)) (now (out .exit)) 0 p (refusalText number at_record) 23 ⌝ }
+fn put_byte(out: &mut [u8], at: usize, byte: u8) -> usize
+    requires { ⌜ at + 9 ≤ length (now out) ⌝ }
+    ensures { λ p. ⌜ Put (now (out .entry)) (now (out .exit)) at p (byteText byte) 9 ⌝ }
+{
+    if byte == 0 {
+        return at;
+    }
+    let p = put_text(out, at, b" byte ");
+    put_number(out, p, byte as usize)
+}
+
+fn put_refusal(out: &mut [u8], refusal: Refusal, at_record: usize) -> usize
+    requires { ⌜ (32 ≤ length (now out)) × (at_record < 1000) ⌝ }
+    ensures { λ p. ⌜ Put (now (out .entry)) (now (out .exit)) 0 p (refusalText refusal at_record) 32 ⌝ }
 {
     let a = put_text(out, 0, b"refused ");
-    let b = put_number(out, a, number as usize);
+    let b = put_number(out, a, layout::number_of(refusal) as usize);
     let c = put_text(out, b, b" record ");
     let d = put_number(out, c, at_record);
-    put(out, d, b'\n')
+    let e = put_byte(out, d, layout::byte_of(refusal));
+    put(out, e, b'\n')
 }
 
 // The listing of a file at the start of the buffer; what is left of the buffer stays.
@@ -132,6 +145,6 @@ pub fn list_file(file: &[u8], out: &mut [u8; 4096]) -> usize
             let a = put_text(out, 0, b"message frame start width status\n");
             put_lines(out, a, file, frames, messages, fields)
         }
-        Verdict::Refused { number, record } => put_refusal(out, number, record),
+        Verdict::Refused { refusal, record } => put_refusal(out, refusal, record),
     }
 }

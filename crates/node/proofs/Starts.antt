@@ -19,14 +19,12 @@ use Rattle.record.specs.Records as records
 use Rattle.record.specs.declared.Field.{Field as FieldRecord}
 use Rattle.record.proofs.Tests.{meanings}
 use Rattle.layout.specs.Verdict.{isFieldOf, fieldsOf, verdict}
-use Rattle.layout.specs.Refusals.{Fails, Refusal}
-use Rattle.layout.specs.declared.Counts.{Counts}
 use Rattle.layout.specs.declared.Verdict.{Verdict}
 use Rattle.layout.specs.WellLaid.{theField, itsMessage, itsFrame, WellLaid}
 use Rattle.layout.proofs.Accepted.{kinds, none-before, accepted}
-use Rattle.layout.proofs.Refused.{refused}
 use Rattle.layout.proofs.Node.{few-frames, few-messages, together, frames-rise, message-placed, status-placed, own-disjoint, fields-separate}
 use Rattle.layout.proofs.Node as laid
+use Rattle.layout.proofs.Numbers.{number-to-ten}
 use Rattle.store.specs.declared.Stage.the-variants.{Gone}
 use Rattle.store.specs.declared.Message.{Message}
 use Rattle.store.specs.declared.Field.{Field}
@@ -282,19 +280,6 @@ module _ (s : List ℕ) (F M D : ℕ) where
 
 -- ---- a load
 
--- the number of a refusal is not 0
-test-number : {s : List ℕ} {i : ℕ} {c : Counts} {k : ℕ} → Fails s i c k → 1 ≤ k
-test-number (Fails.order o e) = omega arith
-test-number (Fails.range o r e) = omega arith
-test-number (Fails.ref o r f e) = omega arith
-test-number (Fails.group o r f g e) = omega arith
-test-number (Fails.place o r f g p e) = omega arith
-
-refusal-number : {s : List ℕ} {k r : ℕ} → Refusal s k r → 1 ≤ k
-refusal-number (Refusal.size fault e at) = omega arith
-refusal-number (Refusal.test sized below before fault) = test-number fault
-refusal-number (Refusal.no-field sized all m lacking e at) = omega arith
-
 -- the file is well laid out, and the load makes its node
 pub record Makes (n : Node) (s : List ℕ) : Type 0 where
   pub frames : ℕ
@@ -310,7 +295,7 @@ load-makes n s = go (verdict s) refl
     go : (v : Verdict) → verdict s ≡ v → loaded n s v .answer ≡ 0 → Makes n s
     go (Verdict.Accepted F M D) e done =
         record { frames = F; messages = M; fields = D; well-laid = accepted s F M D .0 e; node = rw e }
-    go (Verdict.Refused number at) e done = absurd (omega (arith, refusal-number (refused s number at .0 e)))
+    go (Verdict.Refused n at) e done = absurd (omega (arith, number-to-ten n))
 
 pub sound-load : (n : Node) (s : List ℕ) → loadOf n s .answer ≡ 0 → Sound (loadOf n s .node)
 sound-load n s done =

@@ -570,7 +570,7 @@ pub fn close(node: &mut [u8]) -> u8
 
 // ---- load
 
-// The verdict first: a refusal changes nothing, and answers its number and 256 times its record.
+// The verdict first: a refusal changes nothing, and answers its number, 256 times its record and 65,536 times its byte.
 pub fn load(node: &mut [u8], file: &[u8]) -> u32
     requires { ⌜ length (now node) ≡ nodeSize ⌝ }
     ensures { λ r. ⌜ left r (now (node .exit)) ≡ loadOf (nodeOf (now (node .entry))) (now (file .entry)) ⌝ }
@@ -584,6 +584,10 @@ pub fn load(node: &mut [u8], file: &[u8]) -> u32
             store::start(node, file, frames, messages, fields);
             0
         }
-        Verdict::Refused { number, record } => number as u32 + 256 * (record as u32),
+        Verdict::Refused { refusal, record } => {
+            let number = layout::number_of(refusal) as u32;
+            let byte = layout::byte_of(refusal) as u32;
+            number + 256 * (record as u32) + 65536 * byte
+        }
     }
 }

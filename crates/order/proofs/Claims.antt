@@ -7,7 +7,7 @@ use Rattle.order.proofs.OwnBits.{own-bits, own-values}
 use Rattle.order.proofs.EachRound.{each-round, forgotten}
 use Rattle.order.proofs.FlagHistory.{flag-history}
 use Rattle.order.proofs.ThereAndBack.{sent-received, invalid-received}
-use Rattle.order.proofs.Refusals.{refusal, load-refusal}
+use Rattle.order.proofs.Refusals.{refusal, load-refusal, load-tells}
 
 pub claims : Claims
 claims =
@@ -25,4 +25,5 @@ claims =
           invalid-received sender receiver mirror f m carried b fresh p ok cleared;
       refusal = refusal;
       load-refusal = load-refusal;
+      load-tells = load-tells;
     }

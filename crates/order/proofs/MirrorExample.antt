@@ -12,7 +12,7 @@ use Rattle.packing.specs.Values.{isWidth, least, greatest, inRange, extend, ext
 use Rattle.filter.specs.Filter.{rules, passes}
 use Rattle.record.specs.Numbers.{tally, anyBelow, leastBelow}
 use Rattle.record.specs.Records.{byteAt, wordAt, isFrame, isMessage, isField, frameAt, messageAt, fieldAt, pairBelow}
-use Rattle.record.specs.Ranges.{wordFault, faultOf, rangeFaultAt, rangeFault}
+use Rattle.record.specs.Ranges.{wrongIf, wordFinding, frameFinding, messageFinding, fieldFinding, findingOf, findingAt, wrongAt, lowestFault, rangeFault}
 use Rattle.record.specs.Runs.{pastEnd, meet, clash}
 use Rattle.layout.specs.Counts.{countsBefore}
 use Rattle.layout.specs.Verdict.{
@@ -58,7 +58,8 @@ unfolding
     extended isWidth extend
     tally anyBelow leastBelow
     byteAt wordAt isFrame isMessage isField frameAt messageAt fieldAt countsBefore
-    sizeFault pairBelow orderFault wordFault faultOf rangeFaultAt rangeFault refFault isFieldOf unlike groupFault
+    wrongIf wordFinding frameFinding messageFinding fieldFinding findingOf findingAt wrongAt lowestFault rangeFault
+    sizeFault pairBelow orderFault refFault isFieldOf unlike groupFault
     pastEnd meet clash clashAt placeFault fails noField complete failsAt refusalAt judged verdict
 accepted = (refl, refl)
 

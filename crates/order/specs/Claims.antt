@@ -4,8 +4,12 @@ use mathlib.Core.Path.{_≡_}
 use mathlib.Core.Bool.{true, false}
 use mathlib.Core.List.{List, [], _∷_}
 use mathlib.Core.Logic.{_↔_}
-use Prim.Native.Nat.{ℕ, _<_}
+use Prim.Native.Nat.{ℕ, _/_, _%_, _<_}
 use lib.IntN.{ℤ}
+use Rattle.layout.specs.Numbers.{numberOf, byteOf}
+use Rattle.layout.specs.Verdict.{verdict}
+use Rattle.layout.specs.declared.Refusal.{Refusal}
+use Rattle.layout.specs.declared.Verdict.{Verdict}
 use Rattle.store.specs.Node.{Node, nodeOf, frameAt, messageAt}
 use Rattle.message.specs.Messages.{passesNow}
 use Rattle.node.specs.Calls.{left, assembled}
@@ -57,3 +61,7 @@ pub record Claims : Type 0 where
   pub refusal : (b : List ℕ) (c : Call) (s : Seen) (e : List ℕ) → Memory b → Memory e → Does b c s e → (s .answer ≡ 0 → ⊥)
       → (e ≡ b) × (s .lent ≡ lentBefore c)
   pub load-refusal : (b file : List ℕ) (r : ℕ) (e : List ℕ) → Memory b → Memory e → left r e ≡ loadOf (nodeOf b) file → (r ≡ 0 → ⊥) → e ≡ b
+  -- A refused load tells the refusal's number, its record and the byte that it gives
+  pub load-tells : (b file : List ℕ) (r : ℕ) (e : List ℕ) → left r e ≡ loadOf (nodeOf b) file
+      → (n : Refusal) (at : ℕ) → verdict file ≡ Verdict.Refused n at
+      → (r % 256 ≡ numberOf n) × (r / 256 % 256 ≡ at) × (r / 65536 ≡ byteOf n)

@@ -18,8 +18,11 @@ use Rattle.record.specs.declared.Frame.{Frame as FrameRecord}
 use Rattle.record.specs.declared.Message.{Message as MessageRecord}
 use Rattle.record.specs.declared.Field.{Field as FieldRecord}
 use Rattle.record.specs.declared.Record.{Record}
+use Rattle.record.specs.declared.RangeFault.{RangeFault}
 use Rattle.record.specs.declared.Run.{Run}
+use Rattle.layout.specs.Numbers.{numberOf, byteOf}
 use Rattle.layout.specs.Verdict.{fieldsOf, verdict}
+use Rattle.layout.specs.declared.Refusal.{Refusal}
 use Rattle.layout.specs.declared.Verdict.{Verdict}
 use Rattle.layout.specs.declared.Counts.{Counts}
 use Rattle.listing.specs.Put.{Put}
@@ -70,13 +73,15 @@ pub record Once : Type 0 where
   pub field-record : (file : List ℕ) (i : ℕ) → Single (λ (r : FieldRecord). r ≡ fieldRecord file i)
   pub any-record : (file : List ℕ) (i : ℕ) → Single (λ (r : Record). r ≡ recordAt file i)
   pub pair-below : (p r : FieldRecord) → Single (λ (b : Bool). b ≡ pairBelow p r)
-  pub range-fault : (file : List ℕ) (i : ℕ) → Single (λ (b : Bool). b ≡ rangeFault file i)
+  pub range-fault : (file : List ℕ) (i : ℕ) → Single (λ (f : RangeFault). f ≡ rangeFault file i)
   pub past-end : (n : ℕ) (a : Run) → Single (λ (b : Bool). b ≡ pastEnd n a)
   pub runs-meet : (a b : Run) → Single (λ (t : Bool). t ≡ meet a b)
   pub message-run : (g : MessageRecord) (r : FieldRecord) → Single (λ (a : Run). a ≡ messageRun g r)
   pub status-run : (r : FieldRecord) → Single (λ (a : Run). a ≡ statusRun r)
   pub fields-clash : (g : MessageRecord) (r : FieldRecord) (e : MessageRecord) (q : FieldRecord) → Single (λ (b : Bool). b ≡ clash g r e q)
   -- layout
+  pub number-of : (n : Refusal) → Single (λ (r : ℕ). r ≡ numberOf n)
+  pub byte-of : (n : Refusal) → Single (λ (r : ℕ). r ≡ byteOf n)
   pub fields-of : (file : List ℕ) (m n : ℕ) → Single (λ (r : ℕ). r ≡ fieldsOf file m n)
   pub read-layout : (file : List ℕ) → Single (λ (v : Verdict). v ≡ verdict file)
   -- store

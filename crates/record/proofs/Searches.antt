@@ -3,7 +3,7 @@
 use mathlib.Core.Path.{_≡_, refl, sym, _∙_}
 use mathlib.Core.Bool.{Bool, true, false, cond, _||_, true≢false, false≢true}
 use mathlib.Core.Logic.{_↔_}
-use Prim.Native.Nat.{ℕ, zero, suc, _+_, _-_, _<_, _≤_}
+use Prim.Native.Nat.{ℕ, zero, suc, _+_, _<_}
 use native.Mathlib.Decide.{decLt}
 use native.Mathlib.Numerals.{add-one}
 use native.Mathlib.Omega.{arith}
@@ -70,9 +70,3 @@ module _ (p : ℕ → Bool) where
   found k n before here l =
       let (some, first) = least p n k .1 (record { below = l; holds = here; none-before = any-clear p k .0 before }) in
       record { some = some; least = sym first }
-
--- none of the n numbers from a on passes, so k, one of them, does not
-pub none-from : (p : ℕ → Bool) (a n : ℕ) → anyBelow (λ j. p (a + j)) n ≡ false → (k : ℕ) → a ≤ k → k < a + n → p k ≡ false
-none-from p a n none k h l =
-    let back : a + (k - a) ≡ k = omega arith in
-    rw back at (any-clear (λ j. p (a + j)) n .0 none (k - a) (omega arith))

@@ -3,13 +3,11 @@
 -- Assumes nothing.
 use mathlib.Core.Path.{_≡_, refl, sym}
 use mathlib.Core.Bool.{Bool, true, false, not, _&&_, _||_, true≢false, false≢true}
-use mathlib.Core.List.{List, [], _∷_}
 use mathlib.Core.Logic.{_↔_, _⊎_, inl, inr, ⊎-elim}
 use Prim.Native.Nat.{ℕ, zero, suc, _<_, _≤_}
 use native.Mathlib.Nat.{eq-or-lt-of-le, le-of-suc-le-suc, not-suc-le-zero}
 use native.Mathlib.Omega.{arith}
 use lib.Dec.{eqb, ltb, leb}
-use lib.ListN.{length, getD, List·getD-eq-default}
 use borrow.Author.Tests.{ltb-false, le-ltb, leb-true, leb-false, eqb-true, eqb-false, le-leb, lt-leb, eq-eqb, ne-eqb}
 use Rattle.record.specs.Numbers.{anyBelow}
 
@@ -75,26 +73,3 @@ any-clear p (suc n) = (
 )
 
 pub ruleset meanings = (or-clear, and-clear, and-holds, not-clear, not-holds, ltb-clear, leb-clear, leb-holds, eqb-clear, eqb-holds, any-clear)
-
--- ---- a list of tests, and another one for each number past its end
-
-abbrev pub Clear : List Bool → Type 0
-Clear [] = Unit {0}
-Clear (a ∷ l) = (a ≡ false) × Clear l
-
-all-clear : (l : List Bool) (other : ℕ → Bool) → ((k : ℕ) → k < length l → getD l k (other k) ≡ false) → Clear l
-all-clear [] other h = tt
-all-clear (a ∷ l) other h = (h 0 (omega arith), all-clear l (λ k. other (suc k)) (λ k b. h (suc k) (omega arith)))
-
-one-clear : (l : List Bool) → Clear l → (k : ℕ) (other : Bool) → (length l ≤ k → other ≡ false) → getD l k other ≡ false
-one-clear [] c k other h = h (omega arith)
-one-clear (a ∷ l) c zero other h = c .0
-one-clear (a ∷ l) c (suc k) other h = one-clear l (c .1) k other (λ b. h (omega arith))
-
-pub list-clear :
-    (l : List Bool) (other : ℕ → Bool) (n : ℕ) → length l ≤ n
-    → ((k : ℕ) → k < n → getD l k (other k) ≡ false) ↔ (Clear l × ((k : ℕ) → length l ≤ k → k < n → other k ≡ false))
-list-clear l other n few = (
-  λ h. (all-clear l other (λ k b. h k (omega arith)), λ k past b. rw (List·getD-eq-default l (other k)) at (h k b)),
-  λ h k b. one-clear l (h .0) k (other k) (λ past. h .1 k past b),
-)

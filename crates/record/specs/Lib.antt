@@ -1,3 +1,4 @@
+pub mod Claims
 pub mod Numbers
 pub mod Ranges
 pub mod Records

@@ -32,8 +32,3 @@ orOneOf a (b ∷ l) = orOneOf (a || b) l
 abbrev pub oneOf : List Bool → Bool
 oneOf [] = false
 oneOf (a ∷ l) = orOneOf a l
-
--- the first of the tests that holds, counted from k
-abbrev pub firstOf : ℕ → List Bool → ℕ
-firstOf k [] = k
-firstOf k (a ∷ l) = cond a k (firstOf (suc k) l)

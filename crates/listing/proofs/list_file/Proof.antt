@@ -35,14 +35,14 @@ put-lines-requires c κs =
       omega (arith, laid .fields-few),
     )
 
-enum-known-number : tie.Need-enum-known-number
-enum-known-number c = search needs
+enum-known-refusal : tie.Need-enum-known-refusal
+enum-known-refusal c = search needs
 
 put-refusal-requires : tie.Need-put-refusal-requires
 put-refusal-requires c κs =
     let told = c .before .before in
     let answer = told .before .before in
-    (omega arith, omega (arith, refused-record _ _ _ (sym (answer .read-layout .ensures) ∙ told .number .given .1)))
+    (omega arith, omega (arith, refused-record _ _ _ (sym (answer .read-layout .ensures) ∙ told .refusal .given .1)))
 
 returns : tie.Need-returns
 unfolding listing
@@ -58,7 +58,7 @@ unfolding listing
 returns-2 c =
     let told = c .before .before .before in
     let answer = told .before .before in
-    rw (sym (answer .read-layout .ensures) ∙ told .number .given .1) (put-within (c .put-refusal .ensures) (omega arith))
+    rw (sym (answer .read-layout .ensures) ∙ told .refusal .given .1) (put-within (c .put-refusal .ensures) (omega arith))
 
 pub list-file-spec : {M : Type 1} → statement M
 list-file-spec =
@@ -69,7 +69,7 @@ list-file-spec =
     slice-aggregate-put-text
     put-text-requires
     put-lines-requires
-    enum-known-number
+    enum-known-refusal
     put-refusal-requires
     returns
     returns-2)

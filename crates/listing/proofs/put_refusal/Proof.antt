@@ -12,6 +12,12 @@ slice-aggregate-put-text c = search needs
 put-text-requires : tie.Need-put-text-requires
 put-text-requires c κs = search needs
 
+number-of-requires : tie.Need-number-of-requires
+number-of-requires c κs = search needs
+
+cast-put-number : tie.Need-cast-put-number
+cast-put-number c = search needs
+
 put-number-requires : tie.Need-put-number-requires
 put-number-requires c κs = search needs
 
@@ -24,6 +30,12 @@ put-text-requires-2 c κs = search needs
 put-number-requires-2 : tie.Need-put-number-requires-2
 put-number-requires-2 c κs = search needs
 
+byte-of-requires : tie.Need-byte-of-requires
+byte-of-requires c κs = search needs
+
+put-byte-requires : tie.Need-put-byte-requires
+put-byte-requires c κs = search needs
+
 put-requires : tie.Need-put-requires
 put-requires c κs = search needs
 
@@ -34,13 +46,16 @@ returns : tie.Need-returns
 unfolding refusalText
 returns c =
     let end = c .before .before in
-    let place = end .before .before .before .before in
+    let byte = end .before .before .before .before in
+    let place = byte .before .before .before .before .before in
     let word = place .before .before .before .before in
     let number = word .before .before .before .before .before in
-    let first = number .before .before .before .before in
-    put-both (first .put-text .ensures)
+    let first = number .before .before .before .before .before in
+    rw (← number .before .number-of .ensures, ← byte .before .byte-of .ensures)
+    (put-both (first .put-text .ensures)
     (put-both (number .put-number .ensures)
-    (put-both (word .put-text2 .ensures) (put-both (place .put-number2 .ensures) (end .put .ensures))))
+    (put-both (word .put-text2 .ensures)
+    (put-both (place .put-number2 .ensures) (put-both (byte .put-byte .ensures) (end .put .ensures))))))
 
 pub put-refusal-spec : {M : Type 1} → statement M
 put-refusal-spec =
@@ -48,10 +63,14 @@ put-refusal-spec =
     (tie.spec
     slice-aggregate-put-text
     put-text-requires
+    number-of-requires
+    cast-put-number
     put-number-requires
     slice-aggregate-put-text-2
     put-text-requires-2
     put-number-requires-2
+    byte-of-requires
+    put-byte-requires
     put-requires
     same-length
     returns)

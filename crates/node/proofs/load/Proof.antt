@@ -20,12 +20,12 @@ was-accepted : (c : tie.After-frames)
     verdict (c .before .before .before .before .before .args .file .now) ≡ Verdict.Accepted (v .0) (v .1 .0) (v .1 .1 .0)
 was-accepted c = sym (c .before .before .read-layout .ensures) ∙ c .frames .given .1
 
-was-refused : (c : tie.After-number)
-    → let v = c .number .given .0 in
+was-refused : (c : tie.After-refusal)
+    → let v = c .refusal .given .0 in
     verdict (c .before .before .before .before .before .args .file .now) ≡ Verdict.Refused (v .0) (v .1 .0)
-was-refused c = sym (c .before .before .read-layout .ensures) ∙ c .number .given .1
+was-refused c = sym (c .before .before .read-layout .ensures) ∙ c .refusal .given .1
 
-small : (c : tie.After-number) → c .number .given .0 .1 .0 ≤ 192
+small : (c : tie.After-refusal) → c .refusal .given .0 .1 .0 ≤ 192
 small c = refused-record (c .before .before .before .before .before .args .file .now) _ _ (was-refused c)
 
 read-layout-requires : tie.Need-read-layout-requires
@@ -41,20 +41,35 @@ start-requires c κs =
     let w = accepted s _ _ _ .0 (was-accepted told) in
     (few-frames s _ _ _ w, few-messages s _ _ _ w, w .fields-few, search needs)
 
-enum-known-number : tie.Need-enum-known-number
-enum-known-number c = search needs
+enum-known-refusal : tie.Need-enum-known-refusal
+enum-known-refusal c = search needs
+
+number-of-requires : tie.Need-number-of-requires
+number-of-requires c κs = search needs
+
+cast-number : tie.Need-cast-number
+cast-number c = search needs
+
+byte-of-requires : tie.Need-byte-of-requires
+byte-of-requires c κs = search needs
+
+cast-byte : tie.Need-cast-byte
+cast-byte c = search needs
 
 cast-result : tie.Need-cast-result
-cast-result c = search needs
-
-cast-result-2 : tie.Need-cast-result-2
-cast-result-2 c = omega (arith, small (c .before))
+cast-result c = omega (arith, small (c .before .before .before))
 
 mul-result : tie.Need-mul-result
-mul-result c = omega (arith, small (c .before))
+mul-result c = omega (arith, small (c .before .before .before))
 
 add-result : tie.Need-add-result
-add-result c = omega (arith, small (c .before), c .known-told2 .given)
+add-result c = omega (arith, small (c .before .before .before), c .before .number-of .ok)
+
+mul-result-2 : tie.Need-mul-result-2
+mul-result-2 c = search needs
+
+add-result-2 : tie.Need-add-result-2
+add-result-2 c = omega (arith, small (c .before .before .before), c .before .number-of .ok, c .byte-of .ok)
 
 same-length : tie.Need-same-length
 same-length c = search needs
@@ -67,7 +82,8 @@ returns-accepted c =
 
 returns-refused : tie.Need-returns-2
 unfolding loadOf
-returns-refused c = rw (was-refused (c .before)) refl
+returns-refused c =
+    rw (was-refused (c .before .before .before), ← c .before .number-of .ensures, ← c .byte-of .ensures) refl
 
 pub load-spec : {M : Type 1} → statement M
 load-spec =
@@ -76,11 +92,16 @@ load-spec =
     read-layout-requires
     enum-known-frames
     start-requires
-    enum-known-number
+    enum-known-refusal
+    number-of-requires
+    cast-number
+    byte-of-requires
+    cast-byte
     cast-result
-    cast-result-2
     mul-result
     add-result
+    mul-result-2
+    add-result-2
     same-length
     returns-accepted
     returns-refused)

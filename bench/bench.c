@@ -27,12 +27,26 @@ struct shape {
     unsigned frames, bytes, messages, fields; /* bytes of a frame, fields of a message */
     enum { RECEIVED, SENT, BOTH } direction;  /* BOTH: the odd frames and messages are sent */
     enum { MIXED, PLAIN, EVENT } kind;        /* PLAIN: no filter and no status bit; EVENT: event frames, all messages with status bits */
+    int floats;                               /* half of the messages are floats, where these fit */
 };
 
 struct layout {
     uint8_t file[4608];
     size_t length;
     int64_t low[32], high[32]; /* each message's least and greatest value */
+    uint8_t is_float[32];
+    uint32_t pool[4];          /* patterns that its floats often have */
+    uint8_t big[32];           /* each frame's order */
+    uint16_t start[32][32];    /* where a message's field lies in a frame, or NONE */
+};
+
+enum { NONE = 256 };
+
+/* Without their signs: zero, subnormal floats, the least normal ones, about 1 and 2^24, where sums are ties, the greatest, infinity and NaNs. */
+static const uint32_t edges[] = {
+    0x00000000, 0x00000000, 0x00000001, 0x00000002, 0x00000003, 0x007fffff, 0x00800000, 0x00800001, 0x00ffffff, 0x33800000, 0x33800001,
+    0x3f7fffff, 0x3f800000, 0x3f800001, 0x40490fdb, 0x4b7fffff, 0x4b800000, 0x4b800001, 0x72ffffff, 0x73000000, 0x7e800000, 0x7effffff,
+    0x7f000000, 0x7f7ffffe, 0x7f7fffff, 0x7f7fffff, 0x7f800000, 0x7f800001, 0x7fbfffff, 0x7fc00000, 0x7fffffff,
 };
 
 static void put_record(struct layout *l, const uint8_t record[24])
@@ -47,9 +61,42 @@ static void put_word(uint8_t *p, int64_t value)
         p[k] = (uint8_t)((uint64_t)value >> 8 * k);
 }
 
+static void fill_pool(struct layout *l)
+{
+    for (int k = 0; k < 4; k++)
+        l->pool[k] = edges[random_below(sizeof edges / sizeof edges[0])] | (uint32_t)random_below(2) << 31;
+}
+
+/* A float of the pool or beside it, or any. */
+static int64_t random_float(const struct layout *l)
+{
+    uint32_t pattern = l->pool[random_below(4)];
+
+    switch (random_below(8)) {
+    case 0: return (int64_t)random_below(UINT64_C(1) << 32);
+    case 1: return pattern ^ 0x80000000;
+    case 2: return pattern ^ 1;
+    default: return pattern;
+    }
+}
+
+static int64_t made_finite(int64_t pattern)
+{
+    return (pattern & 0x7f800000) == 0x7f800000 ? pattern ^ 0x00800000 : pattern;
+}
+
 static int64_t random_value(const struct layout *l, unsigned m)
 {
+    if (l->is_float[m])
+        return random_float(l);
     return l->low[m] + (int64_t)random_below((uint64_t)(l->high[m] - l->low[m]) + 1);
+}
+
+/* For a layout: of a float a finite one. */
+static int64_t random_word(const struct layout *l, unsigned m)
+{
+    int64_t value = random_value(l, m);
+    return l->is_float[m] ? made_finite(value) : value;
 }
 
 /* A layout of that shape: a message's fields lie evenly in the frames; widths, orders, filters and gaps are random, and all fits. */
@@ -61,9 +108,12 @@ static void write_layout(struct layout *l, const struct shape *s)
     unsigned width[32], status[32], used[32] = {0};
 
     l->length = 0;
+    if (s->floats)
+        fill_pool(l);
     for (unsigned f = 0; f < s->frames; f++) {
         unsigned sent = s->direction == BOTH ? f % 2 : s->direction == SENT;
-        uint8_t r[24] = {1, f, s->bytes, random_below(2), sent, s->kind == EVENT};
+        l->big[f] = random_below(2);
+        uint8_t r[24] = {1, f, s->bytes, l->big[f], sent, s->kind == EVENT};
         put_record(l, r);
     }
     for (unsigned m = 0; m < s->messages; m++) {
@@ -72,23 +122,51 @@ static void write_layout(struct layout *l, const struct shape *s)
         status[m] = s->kind == MIXED ? random_below(2) : s->kind == EVENT;
         unsigned sign = random_below(2);
         unsigned filter = s->kind == PLAIN || (sent && !status[m]) ? 0 : random_below(14);
+        l->is_float[m] = s->floats && widest >= 32 && random_below(2);
+        if (l->is_float[m]) {
+            width[m] = 32;
+            sign = 2;
+            if (filter == 2 || filter == 3 || filter == 6 || filter == 7)
+                filter += 6; /* no masks */
+        }
         uint8_t r[24] = {2, m, width[m], sign, sent, sent ? 0 : random_below(3), filter};
-        l->low[m] = sign ? -(INT64_C(1) << (width[m] - 1)) : 0;
+        l->low[m] = sign == 1 ? -(INT64_C(1) << (width[m] - 1)) : 0;
         l->high[m] = l->low[m] + (INT64_C(1) << width[m]) - 1;
         if (filter == 2 || filter == 3 || (6 <= filter && filter <= 9))
-            put_word(r + 8, random_value(l, m));
+            put_word(r + 8, random_word(l, m));
         if (filter == 2 || filter == 3 || filter == 8 || filter == 9)
-            put_word(r + 12, random_value(l, m));
-        put_word(r + 16, random_value(l, m));
+            put_word(r + 12, random_word(l, m));
+        put_word(r + 16, random_word(l, m));
         put_record(l, r);
     }
     for (unsigned m = 0; m < s->messages; m++)
-        for (unsigned f = m % apart; f < s->frames; f += apart) {
-            unsigned start = used[f] + random_below(3);
+        for (unsigned f = 0; f < s->frames; f++) {
+            l->start[m][f] = NONE;
+            if (f % apart != m % apart)
+                continue;
+            unsigned start = l->start[m][f] = used[f] + random_below(3);
             used[f] = start + width[m] + status[m];
             uint8_t r[24] = {3, m, f, start, status[m], status[m] ? start + width[m] : 0};
             put_record(l, r);
         }
+}
+
+/* Puts 32 bits where the frame's order has them. */
+static void put_bits(uint8_t *data, int big, unsigned start, uint32_t pattern)
+{
+    for (unsigned j = 0; j < 32; j++) {
+        unsigned i = big ? start + 31 - j : start + j;
+        unsigned bit = 1u << (big ? 7 - i % 8 : i % 8);
+        data[i / 8] = (uint8_t)(pattern >> j & 1 ? data[i / 8] | bit : data[i / 8] & ~bit);
+    }
+}
+
+/* Puts random floats into those fields of the frame that carry floats. */
+static void put_floats(const struct layout *l, const struct shape *s, unsigned f, uint8_t *data)
+{
+    for (unsigned m = 0; m < s->messages; m++)
+        if (l->is_float[m] && l->start[m][f] != NONE)
+            put_bits(data, l->big[f], l->start[m][f], (uint32_t)random_float(l));
 }
 
 /* ---- the two sides */
@@ -185,6 +263,8 @@ static struct input random_input(const struct layout *l, const struct shape *s)
         in.data[k] = random_below(4) ? random_below(256) : 255;
     if (random_below(2))
         in.number = random_below(s->frames + 1);
+    if (s->floats && in.number < s->frames)
+        put_floats(l, s, (unsigned)in.number, in.data);
     if (!random_below(8))
         in.length = random_below(33);
     if (!random_below(8))
@@ -194,22 +274,30 @@ static struct input random_input(const struct layout *l, const struct shape *s)
 
 static struct shape random_shape(void)
 {
-    struct shape s = {.direction = random_below(3), .kind = random_below(3)};
+    struct shape s = {.direction = random_below(3), .kind = random_below(3), .floats = random_below(2)};
 
     s.fields = 1 + random_below(8);
     unsigned apart = 2 * (1 + random_below(16 / s.fields));
     s.frames = apart * s.fields;
     s.messages = 1 + random_below(128 / s.fields < 32 ? 128 / s.fields : 32);
-    unsigned least = ((s.messages + apart - 1) / apart * 4 + 7) / 8;
+    unsigned in_frame = (s.messages + apart - 1) / apart;
+    unsigned bits = s.floats && in_frame * 35 <= 256 ? 35 : 4; /* so that floats fit */
+    unsigned least = (in_frame * bits + 7) / 8;
     s.bytes = least + random_below(33 - least);
     return s;
+}
+
+/* Any call; where there are received frames, deliveries more often, so that several instances of a message count. */
+static enum call random_call(const struct shape *s)
+{
+    return s->direction != SENT && random_below(2) ? DELIVER : SEND + random_below(CALLS - SEND);
 }
 
 /* Random layouts, calls on each, and each file again with one byte changed. */
 static void compare(unsigned layouts, unsigned calls)
 {
     static struct layout l;
-    unsigned seen[256] = {0}, refused[MONDGURT_WIDTH + 1] = {0};
+    unsigned seen[256] = {0}, floats[256] = {0}, refused[MONDGURT_WIDTH + 1] = {0};
 
     for (unsigned k = 0; k < layouts; k++) {
         struct shape s = random_shape();
@@ -219,7 +307,11 @@ static void compare(unsigned layouts, unsigned calls)
             differ(LOAD);
         for (unsigned c = 0; c < calls; c++) {
             inputs[0] = random_input(&l, &s);
-            seen[both(SEND + random_below(CALLS - SEND), 1)]++;
+            enum call call = random_call(&s);
+            uint64_t answer = both(call, 1);
+            seen[answer]++;
+            if (call == RECEIVE && inputs[0].number < s.messages && l.is_float[inputs[0].number])
+                floats[answer]++;
         }
         l.file[random_below(l.length)] ^= 1 << random_below(8);
         inputs[0] = (struct input){.file = l.file, .length = random_below(8) ? l.length : random_below(l.length)};
@@ -228,6 +320,7 @@ static void compare(unsigned layouts, unsigned calls)
     printf("%u layouts, %u calls: no difference.\nAnswers 0 and 16 to 23:", layouts, layouts * calls);
     for (unsigned answer = 0; answer < 24; answer += answer ? 1 : 16)
         printf(" %u", seen[answer]);
+    printf("\nReceived floats, answers 0, 20, 21 and 22: %u %u %u %u", floats[0], floats[20], floats[21], floats[22]);
     printf("\nA byte changed, accepted and refusals 1 to 10:");
     for (unsigned refusal = 0; refusal <= MONDGURT_WIDTH; refusal++)
         printf(" %u", refused[refusal]);
@@ -431,6 +524,45 @@ static void closing_rows(struct shape s)
     row(CLOSE, "instances differ", 1);
 }
 
+/* Closings of 16 messages with 8 fields each of 32 bits, all byte-aligned and of little order; seven of eight replicas of a message are equal. */
+static void aligned_row(const char *what, unsigned sign, unsigned agreement)
+{
+    const struct shape s = {.name = what, .frames = 16, .bytes = 32, .messages = 16, .fields = 8};
+
+    layout.length = 0;
+    for (unsigned f = 0; f < s.frames; f++) {
+        uint8_t r[24] = {1, f, s.bytes};
+        put_record(&layout, r);
+    }
+    for (unsigned m = 0; m < s.messages; m++) {
+        uint8_t r[24] = {2, m, 32, sign, 0, agreement};
+        put_record(&layout, r);
+    }
+    for (unsigned m = 0; m < s.messages; m++)
+        for (unsigned f = m % 2; f < s.frames; f += 2) {
+            uint8_t r[24] = {3, m, f, m / 2 * 32};
+            put_record(&layout, r);
+        }
+    inputs[0] = (struct input){.file = layout.file, .length = layout.length};
+    if (both(LOAD, 1) != 0)
+        differ(LOAD);
+
+    for (size_t f = each_frame(&s, 0); f-- > 0;)
+        for (unsigned m = f % 2; m < s.messages; m += 2) {
+            float number = 12.625f * (float)m - 99.9f + (f / 2 == 5 ? 0.25f : 0.0f);
+            uint32_t pattern;
+            memcpy(&pattern, &number, sizeof pattern);
+            put_word(inputs[f].data + m / 2 * 4, pattern);
+        }
+    both(DELIVER, s.frames);
+    row(CLOSE, s.name, 1);
+    both(CLOSE, 1);
+    for (unsigned m = 0; m < s.messages; m++)
+        inputs[m] = (struct input){.number = m};
+    if (both(RECEIVE, s.messages) != 0)
+        differ(RECEIVE);
+}
+
 static void heading(const char *what)
 {
     printf("| Call | %s | library, ns | fast twin, ns | ratio |\n|---|---|---|---|---|\n", what);
@@ -455,6 +587,12 @@ int main(void)
     printf("\n");
     heading("Closing");
     closing_rows(shapes[2]);
+    printf("\n");
+    heading("Float means");
+    aligned_row("average", 2, 1);
+    aligned_row("vote", 2, 2);
+    aligned_row("pick any", 2, 0);
+    aligned_row("average of whole numbers", 0, 1);
     printf("\n");
     heading("Answer");
     refusal_rows(shapes[2]);

@@ -11,7 +11,7 @@ typedef struct {
 } fast_frame;
 
 typedef struct {
-    uint8_t width, is_signed, sent, agreement, filter, has_status;
+    uint8_t width, is_signed, is_float, sent, agreement, filter, has_status;
     uint8_t valid, status;
     uint8_t first, fields; /* its fields are next to each other */
     uint32_t x1, x2;

@@ -13,6 +13,7 @@
 
 #include <stddef.h>
 #include <stdint.h>
+#include <string.h>
 
 #ifdef __cplusplus
 extern "C" {
@@ -30,9 +31,9 @@ typedef struct {
 #define MONDGURT_OK 0            /* done */
 #define MONDGURT_ID 16           /* message or frame number not in the layout; for the flag, also a received message */
 #define MONDGURT_ACCESS 17       /* wrong direction */
-#define MONDGURT_VALUE 18        /* value outside the message's range, or data not of the frame's length */
+#define MONDGURT_VALUE 18        /* value outside the message's range or a float that is not finite, or data not of the frame's length */
 #define MONDGURT_NOFUNC 19       /* invalidate, message without status bit */
-#define MONDGURT_RDA_FAILED 20   /* agreement without result */
+#define MONDGURT_RDA_FAILED 20   /* agreement without result, or no counting instance is a finite float */
 #define MONDGURT_NOT_RECEIVED 21 /* no frame of the message delivered, or its filter did not pass */
 #define MONDGURT_INVALIDATED 22  /* some frame delivered, but no instance counts */
 #define MONDGURT_SUPPRESSED 23   /* frame not to be sent */
@@ -47,7 +48,7 @@ typedef struct {
 #define MONDGURT_NOFIELD 7  /* a message has no field */
 #define MONDGURT_RESERVED 8 /* a byte without a name is not zero */
 #define MONDGURT_UNUSED 9   /* x1 or x2 is not zero, though the filter does not use it */
-#define MONDGURT_WIDTH 10   /* x1, x2 or the initial value is not extended from the message's width */
+#define MONDGURT_WIDTH 10   /* x1, x2 or the initial value is not extended from the message's width, or of a float not finite */
 
 /*
  * The refusal in the answer of a load, or 0; the record that was refused, counted from 0; and for RANGE, RESERVED, UNUSED and WIDTH the lowest wrong
@@ -56,6 +57,33 @@ typedef struct {
 #define MONDGURT_REFUSAL(answer) ((answer) % 256)
 #define MONDGURT_RECORD(answer) ((answer) / 256 % 256)
 #define MONDGURT_BYTE(answer) ((answer) / 65536)
+
+/*
+ * Floats. Of a message whose sign in the layout is 2, a value is the bit pattern of a 32-bit IEEE 754 float, 0 to 4,294,967,295: in a send, in a
+ * receive and in the 32 bits of a field. A send of a pattern that is not finite, an infinity or a NaN, answers VALUE; a received instance that is not
+ * finite is set aside at the closing, and a receive gives finite floats only. These two turn a float into a value and a value back into the float.
+ *
+ * A mean of floats is the sum of the values in frame order divided by their number, each step an f32 operation of the processor. mondgurt_close takes for
+ * granted that these are rounded to nearest-even, with subnormal numbers kept and no trap, as at the start of a program. A caller that has set another
+ * rounding mode, flush-to-zero or denormals-are-zero (in MXCSR on x86-64), or has unmasked floating-point exceptions, restores the default before
+ * mondgurt_close. No other call does float arithmetic.
+ */
+typedef char mondgurt_float_has_four_bytes[sizeof(float) == 4 ? 1 : -1];
+
+static inline int64_t mondgurt_value_of_float(float number)
+{
+    uint32_t pattern;
+    memcpy(&pattern, &number, sizeof pattern);
+    return pattern;
+}
+
+static inline float mondgurt_float_of_value(int64_t value)
+{
+    uint32_t pattern = (uint32_t)value;
+    float number;
+    memcpy(&number, &pattern, sizeof number);
+    return number;
+}
 
 /*
  * Reads a layout file. Answers 0, or refusal + 256 * record + 65536 * byte. At start each message holds its initial value, received ones have the status
@@ -92,7 +120,8 @@ uint8_t mondgurt_deliver(mondgurt_node *node, uint64_t frame, uint8_t valid, con
 
 /*
  * Ends the round: for each received message the counting instances (frame validly delivered, and status bit, if it has one, 1) are agreed on and the
- * result is put to its filter; then the deliveries are forgotten. Answers OK.
+ * result is put to its filter; then the deliveries are forgotten. Of floats, only the finite ones are agreed on, and filters 8 to 13 compare numbers.
+ * Answers OK. What it takes for granted of the processor's floats stands above.
  */
 uint8_t mondgurt_close(mondgurt_node *node);
 

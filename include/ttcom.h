@@ -6,7 +6,7 @@
  *
  * Where this differs from FTCom:
  * - FTCom leaves open what a message's contents are and which numbers the codes have. Here the contents are one signed 64-bit number, and the numbers are
- *   those of mondgurt.h.
+ *   those of mondgurt.h. FTCom has no float type; mondgurt_value_of_float and mondgurt_float_of_value turn a float into such a number and back.
  * - Every test is always made; FTCom makes some only in its extended version. But a null reference, in FTCom TT_E_FTCOM_ACCESS, must not be given.
  * - A value outside the message's range answers TT_E_FTCOM_VALUE; FTCom has TT_E_FTCOM_ACCESS for data that is invalid.
  * - Membership, time, start-up and shut-down are not here.

@@ -14,7 +14,8 @@ LONGEST = 192 * RECORD
 ORDERS = ("little", "big")
 DIRECTIONS = ("received", "sent")
 TRIGGERS = ("time", "event")
-SIGNS = ("unsigned", "signed")
+SIGNS = ("unsigned", "signed", "float")
+UNSIGNED, SIGNED, FLOAT = range(3)
 AGREEMENTS = ("pick any", "average", "vote")
 FILTERS = (
     "true",
@@ -33,6 +34,9 @@ FILTERS = (
     "new >= old",
 )
 
+# The parts of a message that hold values of it.
+VALUES = ("x1", "x2", "initial")
+
 
 class Frame(NamedTuple):
     """A frame record; a file has no names, so there they are made up."""
@@ -47,7 +51,7 @@ class Frame(NamedTuple):
 
 
 class Message(NamedTuple):
-    """A message record; x1, x2 and initial are values, not patterns."""
+    """A message record; x1, x2 and initial are values, not patterns, but for a float: there they are patterns."""
 
     name: str
     number: int
@@ -91,7 +95,7 @@ def decode(raw: bytes) -> Optional[Record]:
     if raw[0] == 1:
         return Frame._make([f"frame{raw[1]}", *raw[1:6], bytes(6) + raw[6:]])
     if raw[0] == 2:
-        values = struct.unpack("<3i" if raw[3] == 1 else "<3I", raw[8:20])
+        values = struct.unpack("<3i" if raw[3] == SIGNED else "<3I", raw[8:20])
         reserved = bytes(7) + raw[7:8] + bytes(12) + raw[20:]
         return Message._make([f"message{raw[1]}", *raw[1:7], *values, reserved])
     if raw[0] == 3:

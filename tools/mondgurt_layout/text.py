@@ -1,13 +1,14 @@
 """Layouts as text. A line is a frame, a message, or a field of the message above it; `#` begins a comment:
 
     frame NAME LENGTH bytes  [little | big]  [received | sent]  [time | event]
-    message NAME WIDTH bits  [unsigned | signed]  [received | sent]  [pick any | average | vote]
+    message NAME WIDTH bits  [unsigned | signed | float]  [received | sent]  [pick any | average | vote]
                              [filter FILTER]  [initial VALUE]
     in FRAME at START  [status PLACE]
 
 What stands in brackets may come in any order. Not said, it is the first choice, `filter true`, `initial 0`, and no
 status bit. Frames and messages are numbered as they are written; fields are put in order.
-A value is decimal, or hexadecimal (0x3FF) as the pattern of the message's bits. FILTER is one of records.FILTERS.
+A value is decimal, or hexadecimal (0x3FF) as the pattern of the message's bits. That of a float may have a fraction and
+an exponent (-1.5e-3); it is rounded once, to the nearest float. FILTER is one of records.FILTERS.
 """
 
 from __future__ import annotations
@@ -16,8 +17,24 @@ import re
 from collections.abc import Iterable
 from typing import NamedTuple
 
-from .records import AGREEMENTS, DIRECTIONS, FILTERS, ORDERS, SIGNS, TRIGGERS, Field, Frame, Layout, Message, Record
-from .verdict import Refused, accept
+from .floats import finite, nearest, shortest
+from .records import (
+    AGREEMENTS,
+    DIRECTIONS,
+    FILTERS,
+    FLOAT,
+    ORDERS,
+    SIGNED,
+    SIGNS,
+    TRIGGERS,
+    VALUES,
+    Field,
+    Frame,
+    Layout,
+    Message,
+    Record,
+)
+from .verdict import FLOATS, Refused, accept
 from .words import aligned, counted, either
 
 # A phrase sets a part of a record. Its words in capitals stand for names and numbers, and set the parts of that name.
@@ -49,9 +66,12 @@ FOLLOW = {
     "3": {"status PLACE": ("present", 1)},
 }
 
-WORD = re.compile(r"-?\w+|[<>!]=|\S")
+# A word that looks like a number is one word to its end, so that a mistake shows all of it.
+WORD = re.compile(r"-?[\w.]+(?:(?<=[0-9.][eE])[-+][\w.]*)?|[<>!]=|\S")
 NAME = re.compile(r"[A-Za-z_]\w*", re.ASCII)
 NUMBER = re.compile(r"-?[0-9]{1,10}|0x[0-9A-Fa-f]{1,8}")
+# The value of a float; up to eight digits of an exponent are more than any float needs and never too many for Decimal.
+DECIMAL = re.compile(r"-?[0-9]+(?:\.[0-9]+)?(?:[eE][-+]?[0-9]{1,8})?")
 
 
 class Word(NamedTuple):
@@ -76,16 +96,26 @@ class Mistake(Exception):
 
 def fits(pattern: str, word: Word) -> bool:
     """Whether a word can stand where a phrase has this one."""
+    if not pattern.isupper():
+        return word.text == pattern
     if pattern in ("NAME", "FRAME"):
         return bool(NAME.fullmatch(word.text))
-    return bool(NUMBER.fullmatch(word.text)) if pattern.isupper() else word.text == pattern
+    # The sign may be said later, so a value is any number here.
+    return bool(NUMBER.fullmatch(word.text) or pattern.lower() in VALUES and DECIMAL.fullmatch(word.text))
+
+
+def meaning(pattern: str) -> str:
+    """What a word of a phrase wants to see."""
+    if not pattern.isupper():
+        return f"`{pattern}`"
+    if pattern in ("NAME", "FRAME"):
+        return "a name" if pattern == "NAME" else "the name of a frame"
+    return "a number" if pattern.lower() in VALUES else "a whole number"
 
 
 def expected(patterns: Iterable[str]) -> str:
     """What phrases want to see, as an English list."""
-    meanings = {"NAME": "a name", "FRAME": "the name of a frame"}
-    wanted = [meanings.get(pattern, "a number" if pattern.isupper() else f"`{pattern}`") for pattern in patterns]
-    return either(dict.fromkeys(wanted))
+    return either(dict.fromkeys(map(meaning, patterns)))
 
 
 def take(words: list[Word], phrases: Phrases) -> Said:
@@ -125,10 +155,14 @@ def said_in(line: int, text: str) -> Said:
     return said
 
 
+def whole(text: str) -> int:
+    """A whole number, decimal or hexadecimal."""
+    return int(text, 16 if text.startswith("0x") else 10)
+
+
 def numbers(said: Said) -> dict[str, int]:
-    """The parts that are said in numbers."""
-    texts = {part: word.text for part, word in said.items() if part not in ("kind", "name", "frame")}
-    return {part: int(text, 16 if text.startswith("0x") else 10) for part, text in texts.items()}
+    """The parts that are said in numbers, without the values of a message."""
+    return {part: whole(word.text) for part, word in said.items() if part not in ("kind", "name", "frame", *VALUES)}
 
 
 def frame_of(number: int, said: Said) -> Frame:
@@ -139,12 +173,25 @@ def frame_of(number: int, said: Said) -> Frame:
 def message_of(number: int, said: Said) -> Message:
     """The message that a line describes."""
     message = Message(said["name"].text, number, **numbers(said))
-    if message.sign and 1 <= message.width <= 32:
-        for part in {"x1", "x2", "initial"} & said.keys():
-            pattern = getattr(message, part)
-            if said[part].text.startswith("0x") and pattern >> message.width - 1 == 1:
-                message = message._replace(**{part: pattern - 2**message.width})
-    return message
+    return message._replace(**{part: value_of(message, part, said[part]) for part in VALUES if part in said})
+
+
+def value_of(message: Message, part: str, word: Word) -> int:
+    """The value that a word stands for, of a float its pattern."""
+    is_pattern = word.text.startswith("0x")
+    if message.sign == FLOAT and not is_pattern:
+        pattern = nearest(word.text)
+        if not finite(pattern):
+            raise Mistake(word, f"{part} {word.text} is not {FLOATS}")
+        return pattern
+    if not NUMBER.fullmatch(word.text):
+        # A float may have been meant.
+        wanted = f"expected a whole number of at most 10 digits, as {message.name} is not a float"
+        raise Mistake(word, f"{wanted}, found `{word.text}`")
+    value = whole(word.text)
+    if message.sign == SIGNED and is_pattern and 1 <= message.width <= 32 and value >> message.width - 1 == 1:
+        value -= 2**message.width
+    return value
 
 
 def field_of(message: int, frames: list[str], said: Said) -> Field:
@@ -185,12 +232,17 @@ def parse(text: str) -> Layout:
         raise Mistake(said.get(refused.part, name), refused.words) from None
 
 
+def value_words(message: Message, value: int) -> str:
+    """A value of a message, of a float as the shortest decimal that reads back."""
+    return shortest(value) if message.sign == FLOAT else str(value)
+
+
 def filter_words(message: Message) -> str:
     """A message's filter with its values in place, masks as patterns."""
     words = FILTERS[message.filter]
     for part, value in (("X1", message.x1), ("X2", message.x2)):
         pattern = f"0x{value & 2**message.width - 1:X}"
-        words = words.replace(part, pattern if "&" in words else str(value))
+        words = words.replace(part, pattern if "&" in words else value_words(message, value))
     return words
 
 
@@ -204,7 +256,7 @@ def message_words(message: Message) -> list[str]:
     """A message's line in pieces."""
     more = [] if message.direction else [AGREEMENTS[message.agreement]]
     more += [f"filter {filter_words(message)}"] if message.filter else []
-    more += [f"initial {message.initial}"] if message.initial else []
+    more += [f"initial {value_words(message, message.initial)}"] if message.initial else []
     size = counted(message.width, "bit")
     return ["message", message.name, size, SIGNS[message.sign], DIRECTIONS[message.direction], "  ".join(more)]
 

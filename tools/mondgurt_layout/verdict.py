@@ -7,15 +7,19 @@ from heapq import merge
 from operator import attrgetter
 from typing import NamedTuple, Optional
 
+from .floats import LARGEST, MINUS, finite, shortest
 from .records import (
     AGREEMENTS,
     DIRECTIONS,
     FILTERS,
+    FLOAT,
     LONGEST,
     ORDERS,
     RECORD,
+    SIGNED,
     SIGNS,
     TRIGGERS,
+    VALUES,
     Field,
     Frame,
     Layout,
@@ -43,6 +47,10 @@ WORDS = {
 
 USE_X1 = (2, 3, 6, 7, 8, 9)
 USE_X2 = (2, 3, 8, 9)
+MASKS = (2, 3, 6, 7)
+
+# What a value of a float may be.
+FLOATS = f"{shortest(MINUS | LARGEST)} to {shortest(LARGEST)}, the values of a float"
 
 
 # Only the first fault counts, so a test may rely on those before it.
@@ -120,7 +128,8 @@ def order_faults(layout: Layout, record: Record) -> Iterator[Fault]:
 
 def byte_faults(layout: Layout, record: Record) -> Iterator[Fault]:
     """Every part lies in its range, and the reserved bytes are zero; the lowest byte decides."""
-    yield from merge(range_faults(record), reserved_faults(record), key=attrgetter("byte"))
+    faults = (range_faults(record), float_faults(record), reserved_faults(record))
+    yield from merge(*faults, key=attrgetter("byte"))
 
 
 def reserved_faults(record: Record) -> Iterator[Fault]:
@@ -136,8 +145,22 @@ def range_faults(record: Record) -> Iterator[Fault]:
     for byte, part, least, greatest, reason, number in ranges(record):
         value = getattr(record, part)
         if not least <= value <= greatest:
-            words = f"{NAMES.get(part, part)} {told(part, value)} is not {span(part, least, greatest)}"
+            allowed = span(record, part, least, greatest)
+            words = f"{NAMES.get(part, part)} {told(record, part, value)} is not {allowed}"
             yield Fault(number, part, f"{words}, {reason}" if reason else words, byte)
+
+
+def float_faults(record: Record) -> Iterator[Fault]:
+    """What only a float may not have, upwards: a mask, and used words that are not finite."""
+    if not isinstance(record, Message) or record.sign != FLOAT:
+        return
+    if record.filter in MASKS:
+        words = f"filter {told(record, 'filter', record.filter)} is not 0, 1, 4, 5 or 8 to 13"
+        yield Fault(RANGE, "filter", f"{words}, as a float takes no mask", 6)
+    for byte, part, used in words_of(record):
+        value = getattr(record, part)
+        if used and not finite(value):
+            yield Fault(WIDTH, part, f"{part} {told(record, part, value)} is not {FLOATS}", byte)
 
 
 def ranges(record: Record) -> Iterator[Range]:
@@ -155,16 +178,25 @@ def ranges(record: Record) -> Iterator[Range]:
     else:
         yield Range(1, "number", 0, 31, "as there are at most 32 messages")
         yield Range(2, "width", 1, 32)
-        yield Range(3, "sign", 0, 1)
+        if record.width == 32:
+            yield Range(3, "sign", 0, 2)
+        else:
+            yield Range(3, "sign", 0, 1, "as a float has 32 bits")
         yield Range(4, "direction", 0, 1)
         if record.direction:
             yield Range(5, "agreement", 0, 0, "as the message is sent")
         else:
             yield Range(5, "agreement", 0, 2)
         yield Range(6, "filter", 0, 13)
-        yield value_range(record, 8, "x1") if record.filter in USE_X1 else unused_range(record, 8, "x1")
-        yield value_range(record, 12, "x2") if record.filter in USE_X2 else unused_range(record, 12, "x2")
-        yield value_range(record, 16, "initial")
+        for byte, part, used in words_of(record):
+            yield value_range(record, byte, part) if used else unused_range(record, byte, part)
+
+
+def words_of(message: Message) -> Iterator[tuple[int, str, bool]]:
+    """The words of a message, upwards: the first byte, the part, and whether it is used."""
+    yield 8, "x1", message.filter in USE_X1
+    yield 12, "x2", message.filter in USE_X2
+    yield 16, "initial", True
 
 
 def value_range(message: Message, byte: int, part: str) -> Range:
@@ -175,25 +207,28 @@ def value_range(message: Message, byte: int, part: str) -> Range:
 
 def unused_range(message: Message, byte: int, part: str) -> Range:
     """A word that the filter does not use."""
-    return Range(byte, part, 0, 0, f"as filter {told('filter', message.filter)} does not use it", UNUSED)
+    reason = f"as filter {told(message, 'filter', message.filter)} does not use it"
+    return Range(byte, part, 0, 0, reason, UNUSED)
 
 
-def told(part: str, value: int) -> str:
-    """A value of a part, with its word if it has one."""
+def told(record: Record, part: str, value: int) -> str:
+    """A value of a part, with its word if it has one, or as a decimal if it is a float."""
+    if isinstance(record, Message) and record.sign == FLOAT and part in VALUES:
+        return shortest(value) if finite(value) else f"0x{value:08X} (not finite)"
     words = WORDS.get(part, ())
     return f"{value} ({words[value]})" if 0 <= value < len(words) else f"{value}"
 
 
-def span(part: str, least: int, greatest: int) -> str:
+def span(record: Record, part: str, least: int, greatest: int) -> str:
     """What a part may be; up to three values are told one by one."""
     if greatest - least < 3:
-        return either(told(part, value) for value in range(least, greatest + 1))
+        return either(told(record, part, value) for value in range(least, greatest + 1))
     return f"{least} to {greatest}"
 
 
 def values_of(width: int, sign: int) -> tuple[int, int]:
-    """The least and the greatest value of a message."""
-    return (-(2 ** (width - 1)), 2 ** (width - 1) - 1) if sign else (0, 2**width - 1)
+    """The least and the greatest value of a message; of a float, those of its patterns."""
+    return (-(2 ** (width - 1)), 2 ** (width - 1) - 1) if sign == SIGNED else (0, 2**width - 1)
 
 
 def ref_faults(layout: Layout, record: Record) -> Iterator[Fault]:

@@ -6,7 +6,8 @@ from pathlib import Path
 from random import Random
 from typing import Optional
 
-from mondgurt_layout.records import Field, Frame, Layout, Message
+from mondgurt_layout.floats import LARGEST, MINUS, finite
+from mondgurt_layout.records import FLOAT, SIGNED, UNSIGNED, Field, Frame, Layout, Message
 
 SAMPLES = Path(__file__).resolve().parents[2] / "samples"
 
@@ -23,16 +24,25 @@ def put(record: str, byte: int, values: str) -> str:
 
 
 def values_of(width: int, sign: int) -> tuple[int, int]:
-    """The least and the greatest value of a message."""
+    """The least and the greatest value of a message that is no float."""
     return (-(2 ** (width - 1)), 2 ** (width - 1) - 1) if sign else (0, 2**width - 1)
+
+
+def random_value(random: Random, width: int, sign: int) -> int:
+    """A value of a message, of a float a finite pattern."""
+    if sign == FLOAT:
+        pattern = random.choice([0, MINUS, 1, LARGEST, MINUS | LARGEST, random.getrandbits(32)])
+        return pattern if finite(pattern) else 0
+    least, greatest = values_of(width, sign)
+    return random.choice([least, greatest, random.randint(least, greatest)])
 
 
 def random_message(random: Random, number: int, direction: int) -> Message:
     """A message of any width with a filter and values in range."""
-    width, sign = random.randint(1, 32), random.randint(0, 1)
-    filter_number = random.randint(0, 13)
-    least, greatest = values_of(width, sign)
-    values = [random.choice([least, greatest, random.randint(least, greatest)]) for _ in range(3)]
+    sign = random.choice((UNSIGNED, SIGNED, FLOAT))
+    width = 32 if sign == FLOAT else random.randint(1, 32)
+    filter_number = random.choice((0, 1, 4, 5, 8, 9, 10, 11, 12, 13) if sign == FLOAT else range(14))
+    values = [random_value(random, width, sign) for _ in range(3)]
     x1 = values[0] if filter_number in (2, 3, 6, 7, 8, 9) else 0
     x2 = values[1] if filter_number in (2, 3, 8, 9) else 0
     agreement = 0 if direction else random.randint(0, 2)

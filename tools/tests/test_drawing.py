@@ -29,6 +29,18 @@ byte 1      8..15  A4  A3  A2  A1  A0   .   .   .
 
   A  m  10 bits  unsigned  big at 3  status 1
 """
+FLOAT = """\
+a: frame 0, 5 bytes, little order, received, time
+
+                    7   6   5   4   3   2   1   0
+byte 0       7..0  A3  A2  A1  A0   .   .   .  A*
+byte 1      15..8 A11 A10  A9  A8  A7  A6  A5  A4
+byte 2     23..16 A19 A18 A17 A16 A15 A14 A13 A12
+byte 3     31..24 A27 A26 A25 A24 A23 A22 A21 A20
+byte 4     39..32   .   .   .   . A31 A30 A29 A28
+
+  A  m  32 bits  float  little at 4  status 0
+"""
 
 
 def ten_bits(order: str) -> Layout:
@@ -50,6 +62,11 @@ class Drawing(unittest.TestCase):
         for order, drawn in (("little", LITTLE), ("big", BIG)):
             layout = ten_bits(order)
             self.assertEqual(drawn, picture(layout, layout.frames[0]))
+
+    def test_float(self) -> None:
+        layout = parse("frame a 5 bytes\nmessage m 32 bits float\nin a at 4 status 0\n")
+        self.assertEqual(FLOAT, picture(layout, layout.frames[0]))
+        self.assertIn(">32 bits, float, little at 4, status 0<", svg.picture(layout, layout.frames, "a"))
 
     def test_p1_and_p3(self) -> None:
         self.assertEqual(bytes.fromhex("28 15"), packed(ten_bits("little"), 677))

@@ -7,7 +7,7 @@ from mondgurt_layout.records import FILTERS, Field, Frame, Message
 from mondgurt_layout.text import Mistake, listing, parse, write
 from mondgurt_layout.verdict import read
 
-from .layouts import SAMPLES, file, random_layout
+from .layouts import SAMPLES, file, put, random_layout
 
 FRAME = "frame a 2 bytes\n"
 MESSAGE = FRAME + "message m 10 bits\n"
@@ -20,14 +20,48 @@ TOO_MANY = "number 32 is not 0 to 31, as there are at most 32"
 TEN_BITS, TEN_SIGNED = "0 to 1023, the values of 10 unsigned bits", "-512 to 511, the values of 10 signed bits"
 FOUR_BITS = "0 to 15, the values of 4 unsigned bits"
 
+FLOAT = FRAME + "message m 32 bits float "
+FLOATS = "-3.4028235e38 to 3.4028235e38, the values of a float"
+NO_FLOAT = "sign 2 (float) is not 0 (unsigned) or 1 (signed), as a float has 32 bits"
+NO_MASK = "is not 0, 1, 4, 5 or 8 to 13, as a float takes no mask"
+WHOLE = "expected a whole number of at most 10 digits, as m is not a float"
+NO_DECIMALS = [
+    *("nan", "NaN", "inf", "-inf", "infinity", "1.5f", "1.", ".5", "-.5", "1..5", "1.2.3", "1_000.0", "e5", "1e"),
+    *("1e-", "1e-x", "1e5.0", "1.e-3", "1e123456789", "0x", "-0x1", "0x123456789", "0x1.8", "0x1e-3"),
+]
+FOLLOWING = (
+    "expected `unsigned`, `signed`, `float`, `received`, `sent`, `pick`, `average`, `vote`, `filter` or `initial`"
+)
+
+# How a value of a float may be written, and its pattern.
+WRITTEN = [
+    ("0", 0),
+    ("0.0", 0),
+    ("-0.0", 0x80000000),
+    ("3", 0x40400000),
+    ("1.5", 0x3FC00000),
+    ("-1.5", 0xBFC00000),
+    ("15E-1", 0x3FC00000),
+    ("0.15e+1", 0x3FC00000),
+    ("1e-3", 0x3A83126F),
+    ("100000000000000000000", 0x60AD78EC),
+    ("16777217", 0x4B800000),
+    ("0x3fc00000", 0x3FC00000),
+    ("0xBFC00000", 0xBFC00000),
+    ("0x80000000", 0x80000000),
+    ("0x1", 1),
+]
+
 # A text, and where and how it is wrong.
 MISTAKES = [
     ("fram a 2 bytes", "1:1: expected `frame`, `message` or `in`, found `fram`"),
     ("frame 2 bytes", "1:7: expected a name, found `2`"),
-    ("frame a", "1:8: expected a number, found the end of the line"),
-    ("frame a  # 2 bytes", "1:8: expected a number, found the end of the line"),
+    ("frame a", "1:8: expected a whole number, found the end of the line"),
+    ("frame a  # 2 bytes", "1:8: expected a whole number, found the end of the line"),
     ("frame a 2 bits", "1:11: expected `bytes` or `byte`, found `bits`"),
-    ("frame a two bytes", "1:9: expected a number, found `two`"),
+    ("frame a two bytes", "1:9: expected a whole number, found `two`"),
+    ("frame a 2.0 bytes", "1:9: expected a whole number, found `2.0`"),
+    ("frame a.b 2 bytes", "1:7: expected a name, found `a.b`"),
     ("\n# why\n\tframe a 2 bytes big little", "3:22: the order is said twice"),
     ("frame a 2 bytes middle", "1:17: expected `little`, `big`, `received`, `sent`, `time` or `event`, found `middle`"),
     (FRAME + "frame a 3 bytes", "2:7: the name a is taken in line 1"),
@@ -40,6 +74,18 @@ MISTAKES = [
     (FRAME + "message m 10 bits filter 0 <= new", "2:34: expected `<=`, found the end of the line"),
     (FRAME + "message m 10 bits filter true filter false", "2:31: the filter is said twice"),
     (FRAME + "message m 10 bits initial 1 initial 1", "2:37: the initial is said twice"),
+    (FRAME + "message m 10 bits float signed", "2:25: the sign is said twice"),
+    (FRAME + "message m 10 bits initial", "2:26: expected a number, found the end of the line"),
+    (FRAME + "message m 10 bits 5", f"2:19: {FOLLOWING}, found `5`"),
+    (FRAME + "message m 10 bits initial 1.5", f"2:27: {WHOLE}, found `1.5`"),
+    (FRAME + "message m 10 bits initial 1e2", f"2:27: {WHOLE}, found `1e2`"),
+    (FRAME + "message m 10 bits initial 3.0 signed", f"2:27: {WHOLE}, found `3.0`"),
+    (FRAME + "message m 10 bits initial 12345678901", f"2:27: {WHOLE}, found `12345678901`"),
+    (FRAME + "message m 10 bits filter 0 <= new <= 1.5", f"2:38: {WHOLE}, found `1.5`"),
+    *((FLOAT + f"initial {word}", f"2:33: expected a number, found `{word}`") for word in NO_DECIMALS),
+    (FLOAT + "initial +1.5", "2:33: expected a number, found `+`"),
+    (FLOAT + "filter nan <= new <= 1", "2:32: expected `true`, `false`, `new` or a number, found `nan`"),
+    (FLOAT + "filter 1 <= new <= inf", "2:44: expected a number, found `inf`"),
     # ORDER
     (FIELD + "  in a at 3", "4:6: the message has a field in this frame already"),
     # RANGE
@@ -47,6 +93,12 @@ MISTAKES = [
     ("frame a 0 bytes", "1:9: length 0 is not 1 to 32"),
     (FRAME + "message m 33 bits", "2:11: width 33 is not 1 to 32"),
     (FRAME + "message m 33 bits initial -1", "2:11: width 33 is not 1 to 32"),
+    (FRAME + "message m 16 bits float initial 1.5", f"2:19: {NO_FLOAT}"),
+    (FRAME + "message m 33 bits float initial 1.5", "2:11: width 33 is not 1 to 32"),
+    (FLOAT + "filter new & 1 = 0", f"2:25: filter 2 (new & X1 = X2) {NO_MASK}"),
+    (FLOAT + "filter new & 1.5 != 0x1", f"2:25: filter 3 (new & X1 != X2) {NO_MASK}"),
+    (FLOAT + "filter new & 1 unchanged", f"2:25: filter 6 (new & X1 unchanged) {NO_MASK}"),
+    (FLOAT + "filter new & 0xFF800000 changed", f"2:25: filter 7 (new & X1 changed) {NO_MASK}"),
     (FRAME + "message m 4 bits sent vote", "2:23: agreement 2 (vote) is not 0 (pick any), as the message is sent"),
     ("\n".join(f"frame f{n} 1 byte" for n in range(33)), f"33:7: {TOO_MANY} frames"),
     ("\n".join(f"message m{n} 1 bit" for n in range(33)), f"33:9: {TOO_MANY} messages"),
@@ -59,6 +111,14 @@ MISTAKES = [
     (FRAME + "message m 4 bits filter 0 <= new <= 16", f"2:37: x2 16 is not {FOUR_BITS}"),
     (FRAME + "message m 4 bits filter new & 0x10 changed", f"2:31: x1 16 is not {FOUR_BITS}"),
     (FRAME + "message m 4 bits initial 17 filter 16 <= new <= 0", f"2:36: x1 16 is not {FOUR_BITS}"),
+    (FLOAT + "initial 0x7F800000", f"2:33: initial 0x7F800000 (not finite) is not {FLOATS}"),
+    (FLOAT + "initial 0xffc00001", f"2:33: initial 0xFFC00001 (not finite) is not {FLOATS}"),
+    (FLOAT + "initial 1 filter 1 <= new <= 0x7FFFFFFF", f"2:54: x2 0x7FFFFFFF (not finite) is not {FLOATS}"),
+    (FLOAT + "filter 0xFF800000 > new or new > 1", f"2:32: x1 0xFF800000 (not finite) is not {FLOATS}"),
+    (FLOAT + "initial 1e39", f"2:33: initial 1e39 is not {FLOATS}"),
+    (FLOAT + "initial -1e99999999", f"2:33: initial -1e99999999 is not {FLOATS}"),
+    (FLOAT + f"initial {2**128 - 2**103}", f"2:33: initial {2**128 - 2**103} is not {FLOATS}"),
+    (FLOAT + "filter -3.5e38 <= new <= 0", f"2:32: x1 -3.5e38 is not {FLOATS}"),
     # REF
     ("frame a 2 bytes sent\nmessage m 10 bits\n  in a at 3", "3:6: m is received and a is sent"),
     # GROUP
@@ -89,7 +149,7 @@ MISTAKES = [
 
 class Texts(unittest.TestCase):
     def test_samples(self) -> None:
-        for name in ("paper", "brake", "largest"):
+        for name in ("paper", "brake", "largest", "strain"):
             with self.subTest(name=name):
                 raw = (SAMPLES / f"{name}.layout").read_bytes()
                 self.assertEqual(raw, parse((SAMPLES / f"{name}.txt").read_text()).to_bytes())
@@ -128,6 +188,30 @@ class Texts(unittest.TestCase):
                     layout = parse(FRAME + f"message m 10 bits {sign} filter {said}\nin a at 3")
                     self.assertEqual(number, layout.messages[0].filter)
                     self.assertEqual(layout, parse(write(layout)))
+
+    def test_floats(self) -> None:
+        for word, pattern in WRITTEN:
+            with self.subTest(word=word):
+                message = f"message m 32 bits initial {word} filter {word}<=new<={word} float\n"
+                layout = parse(f"frame a 4 bytes\n{message}in a at 0")
+                self.assertEqual([Message("m", 0, 32, 2, 0, 0, 8, pattern, pattern, pattern)], layout.messages)
+                self.assertEqual(layout, parse(write(layout)))
+
+    def test_floats_are_written_as_short_decimals(self) -> None:
+        message = put("02 00 20 02 00 00 09", 8, "CD CC CC BD 00 00 80 7E 00 00 00 80")
+        self.assertEqual(
+            "frame  frame0  4 bytes  little  received  time\n\n"
+            "message  message0  32 bits  float  received  pick any  "
+            "filter -0.1 > new or new > 8.507059e37  initial -0.0\n"
+            "  in frame0  at 0\n",
+            write(read(file("01 00 04", message, "03 00 00"))),
+        )
+
+    def test_the_sample_with_floats(self) -> None:
+        within = put("02 00 20 02 00 01 08", 8, "00 00 7A C4 00 00 7A 44")
+        records = ["01 00 08", "01 01 08", "01 02 08", "01 03 04 00 01", within, "02 01 20 02 01"]
+        fields = ["03 00 00 00 01 20", "03 00 01 00 01 20", "03 00 02 00 01 20", "03 01 03"]
+        self.assertEqual(file(*records, *fields), (SAMPLES / "strain.layout").read_bytes())
 
     def test_mistakes(self) -> None:
         for text, told in MISTAKES:

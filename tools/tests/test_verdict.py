@@ -87,6 +87,11 @@ BUT_TRUE = "is not 0, as filter 0 (true) does not use it"
 TEN_BITS, TEN_SIGNED = "0 to 1023, the values of 10 unsigned bits", "-512 to 511, the values of 10 signed bits"
 SIGNED, WITH_X1, WITH_BOTH = "02 00 0A 01", "02 00 0A 00 00 00 06", "02 00 0A 00 00 00 08"
 SIGNED_WITH_BOTH = "02 00 0A 01 00 00 08"
+SIGNS, NO_FLOAT = "0 (unsigned) or 1 (signed)", "as a float has 32 bits"
+NO_MASK = "is not 0, 1, 4, 5 or 8 to 13, as a float takes no mask"
+FLOATS = "-3.4028235e38 to 3.4028235e38, the values of a float"
+BUT_MORE = "is not 0.0, as filter 10 (new > old) does not use it"
+FLOAT, WITHIN = "02 00 20 02", "02 00 20 02 00 00 08"
 
 # The same for a refusal that gives a byte, which stands after the number.
 WRONG_BYTES = [
@@ -101,12 +106,20 @@ WRONG_BYTES = [
     (RANGE, 1, "number 32 is not 0 to 31, as there are at most 32 messages", [*MESSAGES, "02 20 0A"]),
     (RANGE, 2, "width 0 is not 1 to 32", [FRAME, "02 00 00"]),
     (RANGE, 2, "width 33 is not 1 to 32", [FRAME, "02 00 21"]),
-    (RANGE, 3, "sign 2 is not 0 (unsigned) or 1 (signed)", [FRAME, "02 00 0A 02"]),
+    (RANGE, 3, f"sign 2 (float) is not {SIGNS}, {NO_FLOAT}", [FRAME, "02 00 0A 02"]),
+    (RANGE, 3, f"sign 2 (float) is not {SIGNS}, {NO_FLOAT}", [FRAME, "02 00 1F 02"]),
+    (RANGE, 3, f"sign 3 is not {SIGNS}, {NO_FLOAT}", [FRAME, "02 00 0A 03"]),
+    (RANGE, 3, "sign 3 is not 0 (unsigned), 1 (signed) or 2 (float)", [FRAME, "02 00 20 03"]),
     (RANGE, 4, f"direction 2 is not {RECEIVED_OR_SENT}", [FRAME, "02 00 0A 00 02"]),
     (RANGE, 5, "agreement 3 is not 0 (pick any), 1 (average) or 2 (vote)", [FRAME, "02 00 0A 00 00 03"]),
     (RANGE, 5, "agreement 1 (average) is not 0 (pick any), as the message is sent", [FRAME, "02 00 0A 00 01 01"]),
     (RANGE, 5, "agreement 3 is not 0 (pick any), as the message is sent", [FRAME, "02 00 0A 00 01 03"]),
     (RANGE, 6, "filter 14 is not 0 to 13", [FRAME, "02 00 0A 00 00 00 0E"]),
+    (RANGE, 6, "filter 14 is not 0 to 13", [FRAME, "02 00 20 02 00 00 0E"]),
+    (RANGE, 6, f"filter 2 (new & X1 = X2) {NO_MASK}", [FRAME, "02 00 20 02 00 00 02"]),
+    (RANGE, 6, f"filter 3 (new & X1 != X2) {NO_MASK}", [FRAME, "02 00 20 02 01 00 03"]),
+    (RANGE, 6, f"filter 6 (new & X1 unchanged) {NO_MASK}", [FRAME, "02 00 20 02 00 00 06"]),
+    (RANGE, 6, f"filter 7 (new & X1 changed) {NO_MASK}", [FRAME, "02 00 20 02 00 00 07"]),
     (RESERVED, 7, f"byte 7 of a message record {NO_MEANING} 1", [FRAME, put(MESSAGE, 7, "01")]),
     (UNUSED, 8, f"x1 5 {BUT_TRUE}", [FRAME, put(MESSAGE, 8, "05")]),
     (UNUSED, 8, f"x1 -1 {BUT_TRUE}", [FRAME, put(SIGNED, 8, "FF FF FF FF")]),
@@ -117,6 +130,12 @@ WRONG_BYTES = [
     (WIDTH, 16, f"initial 1024 is not {TEN_BITS}", [FRAME, put(MESSAGE, 16, "00 04")]),
     (WIDTH, 16, f"initial 4294967295 is not {TEN_BITS}", [FRAME, put(MESSAGE, 16, "FF FF FF FF")]),
     (WIDTH, 16, f"initial -513 is not {TEN_SIGNED}", [FRAME, put(SIGNED, 16, "FF FD FF FF")]),
+    (UNUSED, 8, "x1 1.5 is not 0.0, as filter 0 (true) does not use it", [FRAME, put(FLOAT, 8, "00 00 C0 3F")]),
+    (UNUSED, 12, f"x2 -0.0 {BUT_MORE}", [FRAME, put("02 00 20 02 00 00 0A", 12, "00 00 00 80")]),
+    (WIDTH, 8, f"x1 0xFF800000 (not finite) is not {FLOATS}", [FRAME, put(WITHIN, 8, "00 00 80 FF")]),
+    (WIDTH, 12, f"x2 0x7F800001 (not finite) is not {FLOATS}", [FRAME, put(WITHIN, 12, "01 00 80 7F")]),
+    (WIDTH, 16, f"initial 0x7F800000 (not finite) is not {FLOATS}", [FRAME, put(FLOAT, 16, "00 00 80 7F")]),
+    (WIDTH, 16, f"initial 0xFFFFFFFF (not finite) is not {FLOATS}", [FRAME, put(FLOAT, 16, "FF FF FF FF")]),
     (RESERVED, 20, f"byte 20 of a message record {NO_MEANING} 1", [put(MESSAGE, 20, "01")]),
     (RESERVED, 23, f"byte 23 of a message record {NO_MEANING} 1", [put(MESSAGE, 23, "01")]),
     (RANGE, 4, "status bit present 2 is not 0 (no) or 1 (yes)", [FRAME, MESSAGE, "03 00 00 03 02"]),
@@ -134,13 +153,23 @@ WRONG_BYTES = [
     # UNUSED comes before WIDTH.
     (UNUSED, 8, f"x1 1024 {BUT_TRUE}", [put(MESSAGE, 8, "00 04")]),
     (UNUSED, 12, "x2 1024 is not 0, as filter 6 (new & X1 unchanged) does not use it", [put(WITH_X1, 12, "00 04")]),
+    (UNUSED, 8, "x1 0x7F800000 (not finite) is not 0.0, as filter 0 (true) does not use it", [put(FLOAT, 10, "80 7F")]),
+    (UNUSED, 12, f"x2 0xFFC00000 (not finite) {BUT_MORE}", [put("02 00 20 02 00 00 0A", 14, "C0 FF")]),
     # The lowest byte decides.
     (RANGE, 1, "number 32 is not 0 to 31, as there are at most 32 frames", [*FRAMES, "01 20 00 02"]),
     (RANGE, 3, "order 2 is not 0 (little) or 1 (big)", [put("01 00 02 02", 7, "01")]),
     (RESERVED, 7, f"byte 7 of a frame record {NO_MEANING} 3", [put(FRAME, 7, "03 02 01")]),
     (RANGE, 2, "width 0 is not 1 to 32", [put("02 00 00 01", 16, "FF FF FF 7F")]),
     (RANGE, 2, "width 255 is not 1 to 32", [put("02 00 FF 02 02 03 0E 01", 8, "01")]),
-    (RANGE, 3, "sign 2 is not 0 (unsigned) or 1 (signed)", [put("02 00 0A 02", 16, "FF FF FF FF")]),
+    (RANGE, 2, "width 33 is not 1 to 32", ["02 00 21 02"]),
+    (RANGE, 3, f"sign 2 (float) is not {SIGNS}, {NO_FLOAT}", [put("02 00 0A 02", 16, "FF FF FF FF")]),
+    (RANGE, 3, f"sign 2 (float) is not {SIGNS}, {NO_FLOAT}", ["02 00 0A 02 02 03 02"]),
+    (RANGE, 4, f"direction 2 is not {RECEIVED_OR_SENT}", ["02 00 20 02 02 03 02"]),
+    (RANGE, 6, f"filter 2 (new & X1 = X2) {NO_MASK}", [put("02 00 20 02 00 00 02 01", 8, "00 00 80 7F")]),
+    (RESERVED, 7, f"byte 7 of a message record {NO_MEANING} 1", [put(WITHIN, 7, "01 00 00 80 7F")]),
+    (WIDTH, 8, f"x1 0x7F800000 (not finite) is not {FLOATS}", [put(WITHIN, 8, "00 00 80 7F 00 00 80 7F")]),
+    (UNUSED, 12, f"x2 0.1 {BUT_MORE}", [put("02 00 20 02 00 00 0A", 12, "CD CC CC 3D 00 00 80 7F")]),
+    (WIDTH, 16, f"initial 0x7F800000 (not finite) is not {FLOATS}", [put(WITHIN, 16, "00 00 80 7F 01")]),
     (RANGE, 4, f"direction 2 is not {RECEIVED_OR_SENT}", ["02 00 0A 00 02 01"]),
     (RANGE, 6, "filter 14 is not 0 to 13", [put("02 00 0A 00 00 00 0E 01", 8, "01")]),
     (RESERVED, 7, f"byte 7 of a message record {NO_MEANING} 1", [put(MESSAGE, 7, "01 01")]),
@@ -225,6 +254,25 @@ EACH_BYTE: list[tuple[list[str], dict[int, Byte]]] = [
             **{byte: zero(RESERVED, byte) for byte in range(20, 24)},
         },
     ),
+    # A float with the filter -2043.0 <= new <= 3.3895314e38 and the initial value 1.7014117e38.
+    (
+        [put("02 00 20 02 00 00 08", 8, "00 60 FF C4 00 00 7F 7F FF FF FF 7E")],
+        {
+            1: ((0,), ORDER, None),
+            3: (range(3), RANGE, 3),
+            4: (range(2), RANGE, 4),
+            5: (range(3), RANGE, 5),
+            7: zero(RESERVED, 7),
+            **{byte: (ANY, WIDTH, 8) for byte in range(8, 11)},
+            11: ({*ANY} - {0x7F, 0xFF}, WIDTH, 8),
+            **{byte: (ANY, WIDTH, 12) for byte in range(12, 14)},
+            14: (range(128), WIDTH, 12),
+            15: (ANY, WIDTH, 12),
+            **{byte: (ANY, WIDTH, 16) for byte in range(16, 19)},
+            19: ({*ANY} - {0x7F, 0xFF}, WIDTH, 16),
+            **{byte: zero(RESERVED, byte) for byte in range(20, 24)},
+        },
+    ),
     (
         [FRAME, MESSAGE, FIELD],
         {
@@ -253,6 +301,9 @@ ACCEPTED: list[list[str]] = [
     [FRAME, MESSAGE, "03 00 00 03 01 0F"],
     [FRAMES[0], "02 00 20", "03 00 00 E0"],
     [SENT[0], "02 00 0A 00 01 00 01", "03 00 00 03 01"],
+    ["01 00 04", FLOAT, "03 00 00"],
+    ["01 00 04", put("02 00 20 02 00 02 08", 8, "FF FF 7F FF FF FF 7F 7F 00 00 00 80"), "03 00 00"],
+    ["01 00 05 01 01", "02 00 20 02 01 00 05", "03 00 00 01 01"],
     [FRAME, "02 00 0A 01 00 02 08 00 00 FE FF FF FF 01 00 00 FF FF FF FF", FIELD],
     EIGHT_FIELDS,
     LARGEST,
@@ -324,6 +375,31 @@ class Verdict(unittest.TestCase):
                     pattern = (value & 0xFFFFFFFF).to_bytes(4, "little").hex()
                     expected = (NOFIELD, None) if least <= value <= greatest else (WIDTH, byte)
                     self.assertEqual(expected, verdict(put(f"02 00 {width:02X} {sign:02X} 00 00 08", byte, pattern)))
+
+    def test_each_sign_with_each_width(self) -> None:
+        for width, sign in product(range(35), ANY):
+            if not 1 <= width <= 32:
+                expected = RANGE, 2
+            elif sign in (0, 1) or sign == 2 and width == 32:
+                expected = NOFIELD, None
+            else:
+                expected = RANGE, 3
+            self.assertEqual(expected, verdict(f"02 00 {width:02X} {sign:02X}"), f"width {width} sign {sign}")
+
+    def test_each_filter_of_a_float(self) -> None:
+        for number in ANY:
+            expected = (NOFIELD, None) if number in (0, 1, 4, 5, 8, 9, 10, 11, 12, 13) else (RANGE, 6)
+            self.assertEqual(expected, verdict(f"02 00 20 02 00 00 {number:02X}"), f"filter {number}")
+
+    def test_words_of_a_float(self) -> None:
+        finite = ["00 00 00 80", "01 00 00 00", "FF FF 7F 7F", "FF FF 7F FF", "00 00 C0 3F"]
+        not_finite = ["00 00 80 7F", "00 00 80 FF", "01 00 80 7F", "00 00 C0 7F", "FF FF FF FF"]
+        for number, pattern in product((0, 1, 4, 5, 8, 9, 10, 11, 12, 13), finite + not_finite):
+            for byte, used in ((8, number in (8, 9)), (12, number in (8, 9)), (16, True)):
+                with self.subTest(number=number, pattern=pattern, byte=byte):
+                    expected = (WIDTH, byte) if pattern in not_finite else (NOFIELD, None)
+                    record = put(f"02 00 20 02 00 00 {number:02X}", byte, pattern)
+                    self.assertEqual(expected if used else (UNUSED, byte), verdict(record))
 
     def test_size_comes_first(self) -> None:
         for raw in (b"\1", bytes(23), bytes(25), bytes(4608 + 24)):

@@ -1,13 +1,24 @@
 //! Agreement on the values of a message's counting instances.
 
+use crate::bits;
+use crate::float;
+use crate::layout::Sign;
+
 /// The agreed value of the counting instances, of which there is at least one, given in order of
-/// their frames; none if there is no result.
-pub fn agree(agreement: u8, values: &[i64]) -> Option<i64> {
-    match agreement {
-        0 => Some(values[0]),
-        1 => Some(average(values)),
+/// their frames; none if there is no result. Floats that are not finite were set aside before.
+pub fn agree(agreement: u8, sign: Sign, values: &[i64]) -> Option<i64> {
+    match (agreement, sign) {
+        (0, _) => Some(values[0]),
+        (1, Sign::Float) => mean(values),
+        (1, _) => Some(average(values)),
         _ => vote(values),
     }
+}
+
+/// The mean of floats, whose values are patterns; none if it is not finite.
+fn mean(values: &[i64]) -> Option<i64> {
+    let floats: Vec<u32> = values.iter().map(|&value| bits::pattern(value)).collect();
+    float::mean(&floats).map(i64::from)
 }
 
 /// The exact sum divided by the count, the fraction dropped toward zero.

@@ -2,23 +2,32 @@
 
 use std::ops::RangeInclusive;
 
-use crate::layout::{Field, Frame, Layout, Message};
+use crate::float;
+use crate::layout::{Field, Frame, Layout, Message, Sign};
 
 /// An unsigned message of w bits holds 0 to 2^w - 1; a signed one holds -2^(w-1) to 2^(w-1) - 1.
+/// The values of a float are its patterns.
 pub fn range(message: &Message) -> RangeInclusive<i64> {
-    if message.signed {
-        let half = 1 << (message.width - 1);
-        -half..=half - 1
-    } else {
-        0..=(1 << message.width) - 1
+    match message.sign {
+        Sign::Signed => {
+            let half = 1 << (message.width - 1);
+            -half..=half - 1
+        }
+        Sign::Unsigned | Sign::Float => 0..=(1 << message.width) - 1,
     }
+}
+
+/// Can it be sent? Of floats, only finite ones.
+pub fn holds(message: &Message, value: i64) -> bool {
+    let is_float = message.sign == Sign::Float;
+    range(message).contains(&value) && (!is_float || float::is_finite(pattern(value)))
 }
 
 /// The value of an extended 32-bit pattern.
 pub fn value(message: &Message, pattern: u32) -> i64 {
-    match message.signed {
-        true => i64::from(pattern as i32),
-        false => i64::from(pattern),
+    match message.sign {
+        Sign::Signed => i64::from(pattern as i32),
+        Sign::Unsigned | Sign::Float => i64::from(pattern),
     }
 }
 
@@ -42,7 +51,7 @@ pub fn unpack(layout: &Layout, field: &Field, data: &[u8]) -> i64 {
     for j in 0..message.width {
         if bit(frame, data, lies_at(layout, field, j)) {
             // Two's complement: the most significant bit of a signed message counts negative.
-            let negative = message.signed && j == message.width - 1;
+            let negative = message.sign == Sign::Signed && j == message.width - 1;
             value += if negative { -(1 << j) } else { 1 << j };
         }
     }

@@ -4,13 +4,14 @@ use std::ops::Range;
 
 use crate::calls::Call;
 use crate::files;
-use crate::layout::{read, Verdict};
+use crate::layout::{read, Layout, Verdict};
 use crate::player::{NodeStep, Step};
 use crate::random::Random;
-use crate::scripts::{other_order, script};
+use crate::scripts::{closings, other_order, script};
 
-/// A layout file, calls on a node of it, and another order of them that has to make no difference.
-/// A case without calls is about the file alone, which may be refused.
+/// A layout file, calls on a node of it, and another order of them that has to make no difference;
+/// without it the calls are played in one order. A case without calls is about the file alone, which
+/// may be refused.
 pub struct Case {
     pub file: Vec<u8>,
     /// Bytes to be put into the loaded node, each with its place. A damaged node means nothing, but
@@ -50,6 +51,27 @@ impl Case {
         }
     }
 
+    /// Rounds of received floats, in one order.
+    pub fn of_closings(seed: u64, index: u64) -> Case {
+        let mut random = Random::new(seed, index);
+        let file = files::build(&mut random, files::FLOATS);
+        Case::in_one_order(file, |layout| closings(&mut random, layout))
+    }
+
+    /// Calls in one order, none if the file is refused.
+    pub fn in_one_order(file: Vec<u8>, calls: impl FnOnce(&Layout) -> Vec<Call>) -> Case {
+        let calls = match read(&file) {
+            Verdict::Accepted(layout) => calls(&layout),
+            Verdict::Refused { .. } => Vec::new(),
+        };
+        Case {
+            file,
+            damage: Vec::new(),
+            calls,
+            order: Vec::new(),
+        }
+    }
+
     /// The calls of the same index, on a node of which a few bytes or most are damaged.
     pub fn of_damage(seed: u64, index: u64) -> Case {
         let mut random = Random::new(!seed, index);
@@ -67,8 +89,13 @@ impl Case {
 
     /// Calls in two orders are played on two nodes, all else on one.
     pub fn nodes(&self) -> Range<u8> {
-        let two = !self.calls.is_empty() && self.damage.is_empty();
+        let two = !self.order.is_empty() && self.damage.is_empty();
         0..if two { 2 } else { 1 }
+    }
+
+    /// Are there calls, in one order alone?
+    pub fn has_one_order(&self) -> bool {
+        !self.calls.is_empty() && self.order.is_empty()
     }
 
     /// The places of the calls in the order in which a node plays them.
@@ -79,7 +106,8 @@ impl Case {
         }
     }
 
-    /// The node's bytes are asked for after loading, before and after each closing, and at the end.
+    /// The node's bytes are asked for after loading, before and after each closing, and at the end;
+    /// not if there is only one order, and so nothing to compare them with.
     pub fn steps(&self) -> Vec<NodeStep<'_>> {
         let mut steps = Vec::new();
         for node in self.nodes() {
@@ -98,6 +126,9 @@ impl Case {
                 }
             }
             steps.push((node, Step::Dump));
+        }
+        if self.has_one_order() {
+            steps.retain(|(_, step)| !matches!(step, Step::Dump));
         }
         steps
     }

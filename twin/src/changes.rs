@@ -12,7 +12,7 @@ use crate::layout::{
     SIZE, UNUSED, WIDTH,
 };
 use crate::random::Random;
-use crate::wrong::{all_places, Place, PLACES};
+use crate::wrong::{all_places, Place, FLOAT, PLACES};
 
 pub type Change = fn(&mut Random, &mut Vec<u8>) -> Option<()>;
 
@@ -80,19 +80,24 @@ fn any_change(random: &mut Random) -> Change {
     }
 }
 
-/// A file with wrong bytes in one record. The even turns go through all places, one in each file;
-/// the odd ones have several.
+/// A file with wrong bytes in one record. Two turns of three go through all places, one in each file;
+/// the third has several.
 pub fn wrong_bytes(random: &mut Random, turn: u64) -> Vec<u8> {
-    let places = all_places();
-    // In large steps, so that few files reach all kinds of record; there are 59 places, a prime, so
-    // that none is left out.
-    let place = places[(turn / 2 * 23) as usize % places.len()];
-    match turn % 2 {
-        0 => with_change(random, |random, file| {
-            make_wrong(random, file, vec![place]).map(|_| ())
-        }),
-        _ => with_change(random, several_wrong),
+    match turn % 3 {
+        2 => with_change(random, several_wrong),
+        part => wrong_at_one(random, turn / 3 * 2 + part),
     }
+}
+
+/// A file with one wrong place, the next at each turn.
+pub fn wrong_at_one(random: &mut Random, turn: u64) -> Vec<u8> {
+    let places = all_places();
+    // In large steps, so that few files reach all kinds of record; 23 has no divisor in common with
+    // the 66 places, so that none is left out.
+    let place = places[(turn * 23) as usize % places.len()];
+    with_change(random, |random, file| {
+        make_wrong(random, file, vec![place]).map(|_| ())
+    })
 }
 
 /// Draws valid files until one has a place for the change.
@@ -344,9 +349,13 @@ fn wrong_for(random: &mut Random, file: &mut Vec<u8>, number: u8) -> Option<()> 
 
 /// Two to four places of one record, each refusal equally often.
 fn several_wrong(random: &mut Random, file: &mut Vec<u8>) -> Option<()> {
-    let kind = random.pick(&[FRAME, MESSAGE, MESSAGE, MESSAGE, FIELD])?;
+    let kind = random.pick(&[FRAME, MESSAGE, MESSAGE, MESSAGE, FLOAT, FLOAT, FIELD])?;
     let mut rows = PLACES.to_vec();
-    rows.retain(|row| row.0 == kind);
+    rows.retain(|row| match (kind, row.0, row.1) {
+        // The bytes of a float are those of any message, the words its own.
+        (FLOAT, MESSAGE, number) => number == RANGE || number == RESERVED,
+        (_, of, _) => of == kind,
+    });
     let mut places = Vec::new();
     for _ in 0..random.between(2, 4) {
         let (kind, number, bytes) = random.pick(&rows)?;
@@ -367,8 +376,9 @@ fn make_wrong(random: &mut Random, file: &mut Vec<u8>, mut places: Vec<Place>) -
     // From the last byte to the first: a word is made wrong for a width, which is made wrong after.
     places.sort_by_key(|place| Reverse(place.byte));
     places.dedup();
-    let &Place { kind, byte, .. } = places.last()?;
-    if byte == 1 {
+    let first = *places.last()?;
+    let kind = first.record();
+    if first.byte == 1 {
         *file = with_number_32(random, kind);
     }
     let at = any(random, file, kind, |record| {

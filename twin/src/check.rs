@@ -41,6 +41,10 @@ pub fn check(case: &Case, replies: &[Reply], counts: &mut Counts) -> Result<(), 
             let second = check_calls(case, &layout, 1, second, &mut Counts::default())?;
             check_orders(case, &first, &second)
         }
+        (Verdict::Accepted(layout), [only]) if case.has_one_order() => {
+            counts.layout();
+            check_calls(case, &layout, 0, only, counts).map(|_| ())
+        }
         _ if !case.damage.is_empty() => check_damaged(case, replies, counts),
         (verdict, _) => {
             counts.file(&case.file, &verdict);
@@ -81,6 +85,9 @@ fn check_calls<'a>(
     let mut twin = Node::start(layout);
     let mut outcomes = vec![Outcome::default(); case.calls.len()];
     let mut dumps = Vec::new();
+    // The first two replies are to the filling and the loading.
+    let mut replies = replies[2..].iter();
+    let mut next = || replies.next().expect("a reply to each step");
     let mut dump = |calls, twin: &Node<'a>, reply: &'a Reply| {
         dumps.push(Dump {
             node,
@@ -89,13 +96,14 @@ fn check_calls<'a>(
             bytes: &reply.lent,
         })
     };
-    // The first two replies are to the filling and the loading.
-    let mut replies = replies[2..].iter();
-    let mut next = || replies.next().expect("a reply to each step");
-    dump(0, &twin, next());
+    let dumped = !case.has_one_order();
+    if dumped {
+        dump(0, &twin, next());
+    }
     for (before, place) in case.order(node).into_iter().enumerate() {
         let call = &case.calls[place];
-        if *call == Call::Close {
+        let closing = dumped && *call == Call::Close;
+        if closing {
             dump(before, &twin, next());
         }
         let earlier = twin.clone();
@@ -103,12 +111,14 @@ fn check_calls<'a>(
         counts.call(&earlier, call, outcome.answer);
         check_call(&outcome, twin != earlier, next())
             .map_err(|said| case.told(node, before + 1) + &said)?;
-        if *call == Call::Close {
+        if closing {
             dump(before + 1, &twin, next());
         }
         outcomes[place] = outcome;
     }
-    dump(case.calls.len(), &twin, next());
+    if dumped {
+        dump(case.calls.len(), &twin, next());
+    }
     Ok(Played { outcomes, dumps })
 }
 

@@ -1,33 +1,26 @@
 //! Plays generated files and calls on the library, in players, and compares them with this
 //! package's own reading.
 
-use std::io;
-use std::ops::Range;
 use std::process::ExitCode;
-use std::thread;
-use std::time::{Duration, Instant};
 
 use twin::case::Case;
 use twin::check::Difference;
-use twin::compare::{compare, explain};
 use twin::counts::Counts;
-use twin::player::Player;
+
+use crate::players::{play, Players};
 
 const CALLS: u64 = 200_000;
 const FILES: u64 = 20_000;
 const SEED: u64 = 1;
 
-/// With at least the default number of calls and files, all that can occur has to occur so often,
-/// and each refusal at each byte that it can give.
+/// With at least the default number of calls and files, all that can occur has to occur so often;
+/// each refusal at each byte that it can give, and what is rare of floats, so often.
 const LEAST: u64 = 100;
-const LEAST_PLACE: u64 = 20;
+const LEAST_RARE: u64 = 20;
 
-/// Each player plays its share of so many cases at once.
-const PLAYERS: usize = 2;
+/// So many cases are played at once.
 const FILES_AT_ONCE: u64 = 400;
 const CALLS_AT_ONCE: u64 = 100;
-
-const PROGRESS: Duration = Duration::from_secs(10);
 
 pub struct Task {
     player: String,
@@ -58,49 +51,19 @@ pub fn task(arguments: &[&str]) -> Option<Task> {
 }
 
 pub fn run(task: Task) -> ExitCode {
-    let players: io::Result<Vec<Player>> =
-        (0..PLAYERS).map(|_| Player::start(&task.player)).collect();
-    let mut players = match players {
-        Ok(players) => players,
-        Err(error) => {
-            println!("{} cannot be run: {error}", task.player);
-            return ExitCode::from(2);
-        }
-    };
-    let mut counts = Counts::default();
-    let compared = compare_all(&task, &mut players, &mut counts);
-    match compared.and_then(|()| players.into_iter().try_for_each(end)) {
-        Ok(()) => conclude(&task, &counts),
-        Err(difference) => {
-            print!("difference at seed {}\n{difference}", task.seed);
-            ExitCode::from(1)
-        }
+    let played = play(&task.player, task.seed, |players, counts| {
+        compare_all(&task, players, counts)
+    });
+    match played {
+        Ok(counts) => conclude(&task, &counts),
+        Err(status) => status,
     }
 }
 
-/// A memory checker may tell by the player's status what it saw.
-fn end(player: Player) -> Result<(), Difference> {
-    match player.end() {
-        Ok(status) if status.success() => Ok(()),
-        Ok(status) => Err(format!("a player ended with {status}\n")),
-        Err(error) => Err(format!("a player did not end: {error}\n")),
-    }
-}
-
-fn compare_all(task: &Task, players: &mut [Player], counts: &mut Counts) -> Result<(), Difference> {
-    let mut said = Instant::now();
-    let mut progress = |counts: &Counts| {
-        if said.elapsed() > PROGRESS {
-            said = Instant::now();
-            let (files, calls) = (counts.files(), counts.calls());
-            eprintln!("{files} files and {calls} calls alike");
-        }
-    };
+fn compare_all(task: &Task, players: &mut Players, counts: &mut Counts) -> Result<(), Difference> {
     for first in (0..task.files).step_by(FILES_AT_ONCE as usize) {
         let indices = first..task.files.min(first + FILES_AT_ONCE);
-        let case = |index| Case::of_file(task.seed, index);
-        compare_some(&task.player, players, indices, case, counts)?;
-        progress(counts);
+        players.compare(indices, |index| Case::of_file(task.seed, index), counts)?;
     }
     let mut first = 0;
     while task.calls == 0 || counts.calls() < task.calls {
@@ -109,43 +72,8 @@ fn compare_all(task: &Task, players: &mut [Player], counts: &mut Counts) -> Resu
             7 => Case::of_damage(task.seed, index),
             _ => Case::of_calls(task.seed, index),
         };
-        compare_some(&task.player, players, indices, case, counts)?;
-        progress(counts);
+        players.compare(indices, case, counts)?;
         first += CALLS_AT_ONCE;
-    }
-    Ok(())
-}
-
-/// The players play their shares of the cases at the same time.
-fn compare_some(
-    command: &str,
-    players: &mut [Player],
-    indices: Range<u64>,
-    case: impl Fn(u64) -> Case + Sync,
-    counts: &mut Counts,
-) -> Result<(), Difference> {
-    let compare_share = |player: &mut Player, share: &[u64]| {
-        let cases: Vec<Case> = share.iter().map(|&index| case(index)).collect();
-        let mut counts = Counts::default();
-        match compare(player, &cases, &mut counts) {
-            Ok(()) => Ok(counts),
-            Err(seen) => Err(explain(command, &cases, seen)),
-        }
-    };
-    let indices: Vec<u64> = indices.collect();
-    let shares = indices.chunks(indices.len().div_ceil(players.len()));
-    let results: Vec<Result<Counts, Difference>> = thread::scope(|scope| {
-        let compare_share = &compare_share;
-        let threads: Vec<_> = players
-            .iter_mut()
-            .zip(shares)
-            .map(|(player, share)| scope.spawn(move || compare_share(player, share)))
-            .collect();
-        let join = |thread: thread::ScopedJoinHandle<_>| thread.join().expect("no thread panics");
-        threads.into_iter().map(join).collect()
-    });
-    for result in results {
-        counts.add(result?);
     }
     Ok(())
 }
@@ -153,14 +81,17 @@ fn compare_some(
 fn conclude(task: &Task, counts: &Counts) -> ExitCode {
     print!("{counts}");
     let (files, calls) = counts.least();
-    let few_files = task.files >= FILES && files < LEAST;
-    let few_calls = task.calls >= CALLS && calls < LEAST;
-    if few_files || few_calls {
+    let (all_files, all_calls) = (task.files >= FILES, task.calls >= CALLS);
+    if (all_files && files < LEAST) || (all_calls && calls < LEAST) {
         println!("something occurred fewer than {LEAST} times");
         return ExitCode::from(1);
     }
-    if task.files >= FILES && counts.least_place() < LEAST_PLACE {
-        println!("a refusal was given at some byte fewer than {LEAST_PLACE} times");
+    if all_files && counts.least_place() < LEAST_RARE {
+        println!("a refusal was given at some byte fewer than {LEAST_RARE} times");
+        return ExitCode::from(1);
+    }
+    if all_calls && counts.floats.least_rare() < LEAST_RARE {
+        println!("something of floats occurred fewer than {LEAST_RARE} times");
         return ExitCode::from(1);
     }
     println!("no difference");

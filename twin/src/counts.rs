@@ -4,11 +4,12 @@ use std::fmt;
 
 use crate::calls::{Call, NAMES};
 use crate::filter::passes;
+use crate::float_counts::FloatCounts;
 use crate::layout::{
-    faults, Fault, Verdict, FIELD, FRAME, MESSAGE, RECORD, REFUSALS, UNUSED, WIDTH,
+    faults, Fault, Sign, Verdict, FIELD, FRAME, MESSAGE, RECORD, REFUSALS, UNUSED, WIDTH,
 };
-use crate::node::{Node, OK};
-use crate::wrong::{Row, PLACES};
+use crate::node::{Node, ACCESS, ID, OK};
+use crate::wrong::{Place, Row, FLOAT, PLACES};
 
 /// The answers that each call can give, in the order of `Call::kind`.
 const ANSWERS: [&[usize]; 8] = [
@@ -27,11 +28,12 @@ pub struct Counts {
     /// Files by verdict: accepted at 0, else at the refusal's number.
     files: [u64; 1 + REFUSALS],
     /// Files refused at a byte, by kind of record, refusal and byte.
-    places: [[[u64; RECORD]; 1 + REFUSALS]; 4],
+    places: [[[u64; RECORD]; 1 + REFUSALS]; 5],
     /// Of these, files whose refused record has faults of two refusals or more, and files with both
-    /// UNUSED and WIDTH at that byte.
+    /// UNUSED and WIDTH at that byte, and of these floats.
     mixed: u64,
     unused_and_width: u64,
+    unused_and_not_finite: u64,
     layouts: u64,
     calls: u64,
     calls_on_damaged: u64,
@@ -39,8 +41,9 @@ pub struct Counts {
     answers: [[u64; 24]; 8],
     /// By filter: values that did not pass, and that did.
     filters: [[u64; 2]; 14],
-    /// Fields packed or delivered, by order, sign and width less one.
+    /// Fields of whole numbers packed or delivered, by order, sign and width less one.
     fields: [[[u64; 32]; 2]; 2],
+    pub floats: FloatCounts,
 }
 
 impl Counts {
@@ -62,12 +65,15 @@ impl Counts {
     }
 
     fn refused_at(&mut self, record: &[u8], number: u8, byte: u8) {
-        let [kind, refusal, at] = [record[0], number, byte].map(usize::from);
-        self.places[kind][refusal][at] += 1;
+        let Place { kind, .. } = Place::of(record, Fault { byte, number });
+        let [place, refusal, at] = [kind, number, byte].map(usize::from);
+        self.places[place][refusal][at] += 1;
         let faults = faults(record);
         let fails = |number| faults.contains(&Fault { byte, number });
         self.mixed += u64::from(faults.iter().any(|fault| fault.number != number));
-        self.unused_and_width += u64::from(fails(UNUSED) && fails(WIDTH));
+        let both = fails(UNUSED) && fails(WIDTH);
+        self.unused_and_width += u64::from(both);
+        self.unused_and_not_finite += u64::from(both && kind == FLOAT);
     }
 
     pub fn layout(&mut self) {
@@ -78,6 +84,12 @@ impl Counts {
     pub fn call(&mut self, node: &Node, call: &Call, answer: u8) {
         self.calls += 1;
         self.answers[call.kind()][usize::from(answer)] += 1;
+        if let Call::Send { message, value } = *call {
+            let is_float = |number: u64| node.layout.messages[number as usize].sign == Sign::Float;
+            if answer != ID && answer != ACCESS && is_float(message) {
+                self.floats.send(value);
+            }
+        }
         match call {
             _ if answer != OK => (),
             Call::Send { message, value } => self.filter(node, *message as usize, *value),
@@ -86,7 +98,9 @@ impl Counts {
             }
             Call::Close => {
                 for number in 0..node.states.len() {
-                    if let Ok(value) = node.agreed(number) {
+                    let agreed = node.agreed(number);
+                    self.floats_of(node, number, agreed.is_ok());
+                    if let Ok(value) = agreed {
                         self.filter(node, number, value);
                     }
                 }
@@ -109,6 +123,7 @@ impl Counts {
         let single = [
             &mut self.mixed,
             &mut self.unused_and_width,
+            &mut self.unused_and_not_finite,
             &mut self.layouts,
             &mut self.calls,
             &mut self.calls_on_damaged,
@@ -118,20 +133,40 @@ impl Counts {
         let filters = self.filters.iter_mut().flatten();
         let fields = self.fields.iter_mut().flatten().flatten();
         let all = self.files.iter_mut().chain(places).chain(single);
-        all.chain(answers).chain(filters).chain(fields)
+        let all = all.chain(answers).chain(filters).chain(fields);
+        all.chain(self.floats.all())
+    }
+
+    fn floats_of(&mut self, node: &Node, number: usize, agrees: bool) {
+        let message = &node.layout.messages[number];
+        if let Some(counting) = node.counting(number) {
+            if message.sign == Sign::Float && !counting.is_empty() {
+                self.floats.closing(message, &counting, agrees);
+            }
+        }
     }
 
     fn filter(&mut self, node: &Node, number: usize, value: i64) {
         let message = &node.layout.messages[number];
-        let passed = passes(message, value, node.states[number].old);
+        let old = node.states[number].old;
+        let passed = passes(message, value, old);
         self.filters[usize::from(message.filter)][usize::from(passed)] += 1;
+        if message.sign == Sign::Float {
+            self.floats.filter(message, value, old, passed);
+        }
     }
 
     fn fields_of(&mut self, node: &Node, number: usize) {
-        let big = usize::from(node.layout.frames[number].big);
+        let big = node.layout.frames[number].big;
         for field in node.layout.fields_of_frame(number) {
             let message = &node.layout.messages[field.message];
-            self.fields[big][usize::from(message.signed)][message.width - 1] += 1;
+            match message.sign {
+                Sign::Float => self.floats.field(big),
+                sign => {
+                    let signed = usize::from(sign == Sign::Signed);
+                    self.fields[usize::from(big)][signed][message.width - 1] += 1;
+                }
+            }
         }
     }
 
@@ -149,14 +184,17 @@ impl Counts {
         let files = files.chain([self.mixed, self.unused_and_width]);
         let answers = (0..8).flat_map(|kind| ANSWERS[kind].iter().map(move |&a| (kind, a)));
         let answers = answers.map(|(kind, answer)| self.answers[kind][answer]);
+        let floats = [self.floats.least(), self.floats.least_send()];
         let calls = answers.chain([self.least_filter(), self.least_field()]);
+        let calls = calls.chain(floats);
         (files.min().unwrap_or(0), calls.min().unwrap_or(0))
     }
 
     /// The least count of files refused at one byte, where that can be.
     pub fn least_place(&self) -> u64 {
         let rows = PLACES.iter().map(|row| self.least_in(row));
-        rows.min().unwrap_or(0)
+        let all = rows.chain([self.unused_and_not_finite]);
+        all.min().unwrap_or(0)
     }
 
     fn least_in(&self, &(kind, number, bytes): &Row) -> u64 {
@@ -190,7 +228,12 @@ impl fmt::Display for Counts {
             self.files[0],
             refused.join(", ")
         )?;
-        let kinds = [(FRAME, "frame"), (MESSAGE, "message"), (FIELD, "field")];
+        let kinds = [
+            (FRAME, "frame"),
+            (MESSAGE, "message"),
+            (FLOAT, "float"),
+            (FIELD, "field"),
+        ];
         let kinds = kinds.map(|(kind, name)| {
             let rows = PLACES.iter().filter(|row| row.0 == kind);
             let least: Vec<String> = rows
@@ -201,8 +244,8 @@ impl fmt::Display for Counts {
         writeln!(f, "  at each byte at least {}", kinds.join("; "))?;
         writeln!(
             f,
-            "  faults of two refusals in the record: {}; UNUSED and WIDTH at one byte: {}",
-            self.mixed, self.unused_and_width
+            "  faults of two refusals in the record: {}; UNUSED and WIDTH at one byte: {}, of which floats {}",
+            self.mixed, self.unused_and_width, self.unused_and_not_finite
         )?;
         writeln!(
             f,
@@ -222,6 +265,7 @@ impl fmt::Display for Counts {
             self.least_filter(),
             self.least_field()
         )?;
+        self.floats.fmt(f)?;
         writeln!(
             f,
             "{} calls on damaged nodes kept to their memory",

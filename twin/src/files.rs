@@ -1,7 +1,8 @@
 //! Generators of layout files: valid ones, changed ones (see changes.rs), and random bytes.
 
 use crate::changes;
-use crate::layout::{uses_x1, uses_x2, FIELD, FRAME, LONGEST, MESSAGE, RECORD};
+use crate::layout::{is_mask, uses_x1, uses_x2, FIELD, FRAME, LONGEST, MESSAGE, RECORD};
+use crate::patterns;
 use crate::random::Random;
 
 pub type Record = [u8; RECORD];
@@ -46,6 +47,10 @@ pub struct Plan {
     pub each: (usize, usize),
     /// The shortest frame.
     pub length: u8,
+    /// One message in so many is a float.
+    pub float: usize,
+    /// Are some frames sent, and so some messages?
+    pub sends: bool,
 }
 
 /// The largest file: 32 + 32 + 128 = 192 records.
@@ -55,12 +60,24 @@ pub const LARGEST: Plan = Plan {
     fields: 128,
     each: (4, 4),
     length: 32,
+    float: 3,
+    sends: true,
 };
 
 /// Sixteen messages with all the fields they may have.
 pub const EIGHT_EACH: Plan = Plan {
     messages: 16,
     each: (8, 8),
+    ..LARGEST
+};
+
+/// Floats only, all received, with one to eight fields each.
+pub const FLOATS: Plan = Plan {
+    frames: 16,
+    messages: 16,
+    each: (1, 8),
+    float: 1,
+    sends: false,
     ..LARGEST
 };
 
@@ -74,6 +91,7 @@ pub fn valid(random: &mut Random) -> Vec<u8> {
             fields: 128,
             each: (1, 3),
             length: 1,
+            ..LARGEST
         },
         _ => Plan {
             frames: random.between(0, 32),
@@ -81,6 +99,7 @@ pub fn valid(random: &mut Random) -> Vec<u8> {
             fields: 128,
             each: (1, 8),
             length: 1,
+            ..LARGEST
         },
     };
     build(random, plan)
@@ -100,7 +119,8 @@ pub fn build(random: &mut Random, plan: Plan) -> Vec<u8> {
         let Some(frame) = random.pick(&frames) else {
             break;
         };
-        let message = message_record(random, messages.len(), frame[4]);
+        let is_float = random.once_in(plan.float);
+        let message = message_record(random, messages.len(), frame[4], is_float);
         let wanted = random.between(plan.each.0, plan.each.1);
         let wanted = wanted.min(plan.fields - fields.len());
         let own = field_records(random, &message, &frames, &mut used, wanted);
@@ -114,7 +134,10 @@ pub fn build(random: &mut Random, plan: Plan) -> Vec<u8> {
 
 fn frame_records(random: &mut Random, plan: Plan) -> Vec<Record> {
     // Once in three all frames have one direction; else each has its own.
-    let same = random.pick(&[Some(0), Some(1), None, None, None, None]);
+    let same = match plan.sends {
+        true => random.pick(&[Some(0), Some(1), None, None, None, None]),
+        false => Some(Some(0)),
+    };
     let mut records = Vec::new();
     for number in 0..plan.frames {
         let mut record = [0; RECORD];
@@ -129,7 +152,7 @@ fn frame_records(random: &mut Random, plan: Plan) -> Vec<Record> {
     records
 }
 
-fn message_record(random: &mut Random, number: usize, direction: u8) -> Record {
+fn message_record(random: &mut Random, number: usize, direction: u8, is_float: bool) -> Record {
     let mut record = [0; RECORD];
     record[0] = MESSAGE;
     record[1] = number as u8;
@@ -138,6 +161,11 @@ fn message_record(random: &mut Random, number: usize, direction: u8) -> Record {
     record[4] = direction;
     record[5] = if direction == 0 { random.byte(0, 2) } else { 0 };
     record[6] = random.byte(0, 13);
+    if is_float {
+        record[2..4].copy_from_slice(&[32, 2]);
+        let filters: Vec<u8> = (0..=13).filter(|&filter| !is_mask(filter)).collect();
+        record[6] = random.pick(&filters).unwrap_or(0);
+    }
     if uses_x1(record[6]) {
         put_pattern(random, &mut record, 8);
     }
@@ -148,8 +176,17 @@ fn message_record(random: &mut Random, number: usize, direction: u8) -> Record {
     record
 }
 
-/// Puts a pattern, extended from the message's width, into the word at a byte of the record.
+pub fn is_float(record: &[u8]) -> bool {
+    record[2..4] == [32, 2]
+}
+
+/// Puts a pattern, extended from the message's width or of a finite float, into the word at a byte
+/// of the record.
 pub fn put_pattern(random: &mut Random, record: &mut [u8], at: usize) {
+    if is_float(record) {
+        let pattern = patterns::finite(random);
+        return record[at..at + 4].copy_from_slice(&pattern.to_le_bytes());
+    }
     // Other changes may have put a width out of range.
     let unused = 32 - u32::from(record[2].clamp(1, 32));
     let any = random.draw() as u32;

@@ -1,13 +1,18 @@
 //! The fourteen message filters.
 
-use crate::bits;
-use crate::layout::Message;
+use std::cmp::Ordering;
 
-/// Does the new value pass? Masks work on the extended patterns, order on values.
+use crate::bits;
+use crate::float;
+use crate::layout::{Message, Sign};
+
+/// Does the new value pass? Masks work on the extended patterns, order on values. Of floats, 4 and 5
+/// compare patterns, and 8 to 13 the numbers that these stand for.
 pub fn passes(message: &Message, new: i64, old: i64) -> bool {
     let (x1, x2) = (message.x1, message.x2);
     let masked = |value| bits::pattern(value) & x1;
-    let within = bits::value(message, x1) <= new && new <= bits::value(message, x2);
+    let to = |other| order(message, new, other);
+    let within = to(bits::value(message, x1)).is_ge() && to(bits::value(message, x2)).is_le();
     match message.filter {
         0 => true,
         1 => false,
@@ -19,9 +24,16 @@ pub fn passes(message: &Message, new: i64, old: i64) -> bool {
         7 => masked(new) != masked(old),
         8 => within,
         9 => !within,
-        10 => new > old,
-        11 => new <= old,
-        12 => new < old,
-        _ => new >= old,
+        10 => to(old).is_gt(),
+        11 => to(old).is_le(),
+        12 => to(old).is_lt(),
+        _ => to(old).is_ge(),
+    }
+}
+
+fn order(message: &Message, one: i64, other: i64) -> Ordering {
+    match message.sign {
+        Sign::Unsigned | Sign::Signed => one.cmp(&other),
+        Sign::Float => float::compare(bits::pattern(one), bits::pattern(other)),
     }
 }

@@ -3,6 +3,8 @@
 
 use std::ops::RangeInclusive;
 
+use crate::float;
+
 pub const SIZE: u8 = 1;
 pub const ORDER: u8 = 2;
 pub const RANGE: u8 = 3;
@@ -32,10 +34,19 @@ pub struct Frame {
     pub event: bool,
 }
 
+/// Byte 3 of a message record.
+#[derive(Clone, Copy, Debug, PartialEq)]
+pub enum Sign {
+    Unsigned,
+    Signed,
+    /// A 32-bit IEEE 754 float, whose values are bit patterns.
+    Float,
+}
+
 #[derive(Debug, PartialEq)]
 pub struct Message {
     pub width: usize,
-    pub signed: bool,
+    pub sign: Sign,
     pub sent: bool,
     pub agreement: u8,
     pub filter: u8,
@@ -259,16 +270,22 @@ fn message_rules(record: &[u8]) -> Vec<Rule> {
     let message = message(record);
     let (x1, x2, initial) = (message.x1, message.x2, message.initial);
     let width_in_range = (1..=32).contains(&width);
+    let is_float = message.sign == Sign::Float;
     // From a width out of range nothing can be extended; that width decides, at byte 2.
-    let fits = |word: u32| !width_in_range || extended(word, &message);
+    let fits = |word: u32| match is_float {
+        true => float::is_finite(word),
+        false => !width_in_range || extended(word, &message),
+    };
     let mut rules = vec![
         (1, RANGE, number < 32),
         (2, RANGE, width_in_range),
-        (3, RANGE, sign <= 1),
+        (3, RANGE, sign <= 2),
+        (3, RANGE, !is_float || width == 32),
         (4, RANGE, direction <= 1),
         (5, RANGE, agreement <= 2),
         (5, RANGE, direction == 0 || agreement == 0),
         (6, RANGE, filter <= 13),
+        (6, RANGE, !is_float || !is_mask(filter)),
         (8, UNUSED, uses_x1(filter) || x1 == 0),
         (12, UNUSED, uses_x2(filter) || x2 == 0),
         (8, WIDTH, fits(x1)),
@@ -296,6 +313,10 @@ fn reserved(record: &[u8], bytes: RangeInclusive<u8>) -> impl Iterator<Item = Ru
     bytes.map(|byte| (byte, RESERVED, record[usize::from(byte)] == 0))
 }
 
+pub fn is_mask(filter: u8) -> bool {
+    [2, 3, 6, 7].contains(&filter)
+}
+
 pub fn uses_x1(filter: u8) -> bool {
     [2, 3, 6, 7, 8, 9].contains(&filter)
 }
@@ -307,7 +328,7 @@ pub fn uses_x2(filter: u8) -> bool {
 /// Each bit above the width is zero, or for a signed message the same as the sign bit.
 fn extended(pattern: u32, message: &Message) -> bool {
     let bit = |i: usize| pattern >> i & 1 == 1;
-    let above = message.signed && bit(message.width - 1);
+    let above = message.sign == Sign::Signed && bit(message.width - 1);
     (message.width..32).all(|i| bit(i) == above)
 }
 
@@ -398,7 +419,11 @@ fn frame(record: &[u8]) -> Frame {
 fn message(record: &[u8]) -> Message {
     Message {
         width: usize::from(record[2]),
-        signed: record[3] == 1,
+        sign: match record[3] {
+            1 => Sign::Signed,
+            2 => Sign::Float,
+            _ => Sign::Unsigned,
+        },
         sent: record[4] == 1,
         agreement: record[5],
         filter: record[6],

@@ -3,7 +3,8 @@
 use crate::agreement::agree;
 use crate::bits;
 use crate::filter::passes;
-use crate::layout::{Field, Frame, Layout, Message};
+use crate::float;
+use crate::layout::{Field, Frame, Layout, Message, Sign};
 
 pub const OK: u8 = 0;
 pub const ID: u8 = 16;
@@ -67,7 +68,7 @@ impl<'a> Node<'a> {
         if !message.sent {
             return ACCESS;
         }
-        if !bits::range(message).contains(&value) {
+        if !bits::holds(message, value) {
             return VALUE;
         }
         let state = &mut self.states[number];
@@ -206,6 +207,23 @@ impl<'a> Node<'a> {
 
     /// What a closing would put to the filter of a received message, or the status if nothing.
     pub fn agreed(&self, message: usize) -> Result<i64, u8> {
+        let counting = self.counting(message).ok_or(NOT_RECEIVED)?;
+        if counting.is_empty() {
+            return Err(INVALIDATED);
+        }
+        let Message {
+            agreement, sign, ..
+        } = self.layout.messages[message];
+        let left = left(sign, counting);
+        if left.is_empty() {
+            return Err(RDA_FAILED);
+        }
+        agree(agreement, sign, &left).ok_or(RDA_FAILED)
+    }
+
+    /// The values of a received message's counting instances, in order of their frames; none if no
+    /// frame of it was delivered.
+    pub fn counting(&self, message: usize) -> Option<Vec<i64>> {
         let mut delivered = false;
         let mut counting = Vec::new();
         // A message's fields stand in order of their frames.
@@ -221,13 +239,7 @@ impl<'a> Node<'a> {
                 }
             }
         }
-        if !delivered {
-            return Err(NOT_RECEIVED);
-        }
-        if counting.is_empty() {
-            return Err(INVALIDATED);
-        }
-        agree(self.layout.messages[message].agreement, &counting).ok_or(RDA_FAILED)
+        delivered.then_some(counting)
     }
 
     /// The frame's fields that are at one stage go to another; others stay.
@@ -248,6 +260,13 @@ impl<'a> Node<'a> {
         let number = usize::try_from(number).ok()?;
         Some((number, self.layout.frames.get(number)?))
     }
+}
+
+/// What is left of the counting instances: floats that are not finite are set aside.
+pub fn left(sign: Sign, mut counting: Vec<i64>) -> Vec<i64> {
+    let stays = |value| sign != Sign::Float || float::is_finite(bits::pattern(value));
+    counting.retain(|&value| stays(value));
+    counting
 }
 
 /// All fields of a message have a status bit, or none has (GROUP).

@@ -2,22 +2,22 @@
 
 use crate::bits;
 use crate::calls::Call;
-use crate::layout::Layout;
+use crate::float::SIGN;
+use crate::layout::{Layout, Sign};
 use crate::node::Node;
+use crate::patterns::{made_finite, not_finite, Theme};
 use crate::random::Random;
 
 /// The calls of several rounds on a node of the layout. Each ends with a closing, after which all
 /// messages are received or only some.
 pub fn script(random: &mut Random, layout: &Layout) -> Vec<Call> {
-    let mut writer = Writer {
-        node: Node::start(layout),
-        favourites: vec![[0; 2]; layout.messages.len()],
-        calls: Vec::new(),
-        random,
-    };
+    let mut writer = Writer::new(random, layout);
     let longest = 10 + layout.frames.len() + layout.messages.len();
     for _ in 0..writer.random.between(1, 6) {
-        writer.choose_favourites();
+        writer.begin_round();
+        if writer.calm {
+            writer.deliver_each();
+        }
         for _ in 0..writer.random.between(0, longest) {
             writer.step();
         }
@@ -29,6 +29,18 @@ pub fn script(random: &mut Random, layout: &Layout) -> Vec<Call> {
     writer.calls
 }
 
+/// Rounds of which each delivers the received frames, closes, and receives each message.
+pub fn closings(random: &mut Random, layout: &Layout) -> Vec<Call> {
+    let mut writer = Writer::new(random, layout);
+    for _ in 0..8 {
+        writer.begin_round();
+        writer.deliver_each();
+        writer.push(Call::Close);
+        writer.receive_each();
+    }
+    writer.calls
+}
+
 /// Writes calls and plays them, so that it knows what the node holds.
 struct Writer<'a> {
     random: &'a mut Random,
@@ -36,17 +48,37 @@ struct Writer<'a> {
     /// For each message two values that this round's deliveries carry often, so that votes have a
     /// winner or a tie.
     favourites: Vec<[i64; 2]>,
+    /// And what the other values have in common if the message is a float.
+    themes: Vec<Theme>,
+    /// Are all deliveries of this round valid, with all status bits set? Then many instances count.
+    calm: bool,
     calls: Vec<Call>,
 }
 
-impl Writer<'_> {
+impl<'a> Writer<'a> {
+    fn new(random: &'a mut Random, layout: &'a Layout) -> Writer<'a> {
+        Writer {
+            random,
+            node: Node::start(layout),
+            favourites: vec![[0; 2]; layout.messages.len()],
+            themes: vec![Theme::Any; layout.messages.len()],
+            calm: false,
+            calls: Vec::new(),
+        }
+    }
+
     fn push(&mut self, call: Call) {
         call.play(&mut self.node);
         self.calls.push(call);
     }
 
-    fn choose_favourites(&mut self) {
+    fn begin_round(&mut self) {
+        self.calm = self.random.once_in(3);
         for message in 0..self.favourites.len() {
+            // Often the same as before, so that new and old values are alike.
+            if self.calls.is_empty() || self.random.once_in(2) {
+                self.themes[message] = Theme::any(self.random);
+            }
             self.favourites[message] = [self.value(message), self.value(message)];
         }
     }
@@ -145,6 +177,18 @@ impl Writer<'_> {
 
     fn deliver(&mut self) {
         let frame = self.frame(false);
+        self.deliver_to(frame);
+    }
+
+    fn deliver_each(&mut self) {
+        for number in 0..self.node.layout.frames.len() {
+            if !self.node.layout.frames[number].sent {
+                self.deliver_to(number as u64);
+            }
+        }
+    }
+
+    fn deliver_to(&mut self, frame: u64) {
         let mut data = self.data(frame);
         let layout = self.node.layout;
         for field in layout.fields.iter() {
@@ -152,15 +196,14 @@ impl Writer<'_> {
             if field.frame as u64 != frame || carrier.length != data.len() {
                 continue;
             }
-            let [one, other] = self.favourites[field.message];
-            let any = self.value(field.message);
-            let value = self.random.pick(&[one, one, one, other, other, any]);
-            bits::pack(layout, field, value.unwrap_or(any), &mut data);
+            let value = self.instance(field.message);
+            bits::pack(layout, field, value, &mut data);
             if let Some(place) = field.status {
-                bits::set_bit(carrier, &mut data, place, !self.random.once_in(4));
+                let set = self.calm || !self.random.once_in(4);
+                bits::set_bit(carrier, &mut data, place, set);
             }
         }
-        let valid = match self.random.once_in(8) {
+        let valid = match !self.calm && self.random.once_in(8) {
             true => 0,
             false => self.random.pick(&[1, 1, 2, 128, 255]).unwrap_or(1),
         };
@@ -238,8 +281,49 @@ impl Writer<'_> {
         }
     }
 
+    /// What a frame carries of the message: often one of the round's favourites. Of a float also one
+    /// that is not finite.
+    fn instance(&mut self, message: usize) -> i64 {
+        let [one, other] = self.favourites[message];
+        if !self.is_float(message) {
+            let any = self.value(message);
+            let value = self.random.pick(&[one, one, one, other, other, any]);
+            return value.unwrap_or(any);
+        }
+        let theme = self.themes[message];
+        match self.random.between(0, 15) {
+            0..=3 => one,
+            4 | 5 => other,
+            6 | 7 => self.value(message),
+            8 => not_finite(self.random).into(),
+            _ => theme.pattern(self.random).into(),
+        }
+    }
+
+    fn is_float(&self, message: usize) -> bool {
+        self.node.layout.messages[message].sign == Sign::Float
+    }
+
+    /// A finite float: of the round's theme, or at an edge of its filter.
+    fn float(&mut self, message: usize) -> i64 {
+        let state = &self.node.states[message];
+        let by_theme = self.themes[message].pattern(self.random);
+        let message = &self.node.layout.messages[message];
+        let (old, held) = (bits::pattern(state.old), bits::pattern(state.held));
+        let patterns = [
+            by_theme, by_theme, by_theme, old, old, held, message.x1, message.x2,
+        ];
+        let pattern = self.random.pick(&patterns).unwrap_or(by_theme);
+        // The same, the other sign, or the float beside it.
+        let change = self.random.pick(&[0, 0, 0, SIGN, 1]).unwrap_or(0);
+        made_finite(pattern ^ change).into()
+    }
+
     /// A value of the message: often one at an edge of its range or of its filter.
     fn value(&mut self, message: usize) -> i64 {
+        if self.is_float(message) {
+            return self.float(message);
+        }
         let state = &self.node.states[message];
         let message = &self.node.layout.messages[message];
         let (least, most) = bits::range(message).into_inner();
@@ -270,6 +354,9 @@ impl Writer<'_> {
         let value = self.value(message);
         if !self.random.once_in(8) {
             return value;
+        }
+        if self.is_float(message) && self.random.once_in(2) {
+            return not_finite(self.random).into();
         }
         let message = &self.node.layout.messages[message];
         let (least, most) = bits::range(message).into_inner();

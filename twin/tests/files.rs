@@ -1,9 +1,9 @@
 //! The generators: valid files are accepted, each change is refused as it is meant to be, and the
 //! edges that matter occur.
 
-use twin::changes::{with_change, wrong_bytes, CHANGES};
+use twin::changes::{with_change, wrong_at_one, wrong_bytes, CHANGES};
 use twin::files::{file, valid};
-use twin::layout::{faults, read, Fault, Layout, Verdict, RECORD};
+use twin::layout::{faults, read, Fault, Layout, Message, Sign, Verdict, RECORD};
 use twin::random::Random;
 use twin::wrong::{all_places, Place};
 
@@ -54,6 +54,32 @@ fn valid_files_have_all_widths_and_filters() {
 }
 
 #[test]
+fn valid_files_have_floats() {
+    let layouts = valid_layouts();
+    let has = |sent, agreement, filter| {
+        let is = |it: &Message| {
+            it.sign == Sign::Float
+                && (it.sent, it.agreement, it.filter) == (sent, agreement, filter)
+        };
+        count(&layouts, |layout| layout.messages.iter().any(is))
+    };
+    for filter in [0, 1, 4, 5, 8, 9, 10, 11, 12, 13] {
+        assert!(has(true, 0, filter) >= 20);
+        for agreement in 0..=2 {
+            assert!(has(false, agreement, filter) >= 10);
+        }
+    }
+    for fields in 1..=8 {
+        let with_so_many = |layout: &Layout| {
+            let is_float = |&m: &usize| layout.messages[m].sign == Sign::Float;
+            let has = |m: usize| layout.fields_of_message(m).count() == fields;
+            (0..layout.messages.len()).filter(is_float).any(has)
+        };
+        assert!(count(&layouts, with_so_many) >= 20);
+    }
+}
+
+#[test]
 fn each_change_leads_to_its_refusal() {
     for (place, &(aim, change)) in CHANGES.iter().enumerate() {
         let hits = (0..100)
@@ -76,21 +102,16 @@ fn refused_at(file: &[u8]) -> Option<(&[u8], Fault)> {
     }
 }
 
-fn place_of(record: &[u8], Fault { byte, number }: Fault) -> Place {
-    let kind = record[0];
-    Place { kind, number, byte }
-}
-
 #[test]
-fn even_turns_go_through_all_places() {
+fn single_faults_go_through_all_places() {
     let places = all_places();
     let rounds = 10;
     let files = (0..rounds * places.len() as u64)
-        .map(|turn| wrong_bytes(&mut Random::new(SEED, turn), 2 * turn));
+        .map(|turn| wrong_at_one(&mut Random::new(SEED, turn), turn));
     let seen: Vec<Place> = files
         .map(|file| {
             let (record, fault) = refused_at(&file).expect("refused at a byte");
-            place_of(record, fault)
+            Place::of(record, fault)
         })
         .collect();
     for place in places {
@@ -100,9 +121,9 @@ fn even_turns_go_through_all_places() {
 }
 
 #[test]
-fn odd_turns_have_several_faults() {
+fn the_third_turns_have_several_faults() {
     let several = |turn: &u64| {
-        let file = wrong_bytes(&mut Random::new(SEED, *turn), 2 * turn + 1);
+        let file = wrong_bytes(&mut Random::new(SEED, *turn), 3 * turn + 2);
         refused_at(&file).is_some_and(|(record, first)| {
             let faults = faults(record);
             faults.iter().any(|fault| fault.number != first.number)
@@ -116,7 +137,7 @@ fn no_other_place_is_given() {
     let places = all_places();
     for index in 0..4000 {
         if let Some((record, fault)) = refused_at(&file(SEED, index)) {
-            assert!(places.contains(&place_of(record, fault)));
+            assert!(places.contains(&Place::of(record, fault)));
         }
     }
 }

@@ -203,7 +203,8 @@ fn range_of_each_byte() {
         (0, 4, &[2, 255]),
         (0, 5, &[2, 255]),
         (1, 2, &[0, 33, 255]),
-        (1, 3, &[2, 255]),
+        // 2 is a float, which has 32 bits and not ten.
+        (1, 3, &[2, 3, 255]),
         (1, 4, &[2, 255]),
         (1, 5, &[3, 255]),
         (1, 6, &[14, 255]),
@@ -355,6 +356,98 @@ fn wrong_width_sign_and_filter_decide_before_the_words() {
             let changes = [&[(byte, value)], &words[..]].concat();
             let file = example_with_all(1, &changes);
             assert_refused_at(&file, RANGE, 1, byte as u8);
+        }
+    }
+}
+
+/// A frame of four bytes, a float with this filter and these words, and its field.
+fn float_with(filter: u8, x1: u32, x2: u32, initial: u32) -> Vec<u8> {
+    let mut message = record(&[2, 0, 32, 2, 0, 0, filter]);
+    for (word, at) in [(x1, 8), (x2, 12), (initial, 16)] {
+        message[at..at + 4].copy_from_slice(&word.to_le_bytes());
+    }
+    [record(&[1, 0, 4]), message, record(&[3])].concat()
+}
+
+const NOT_FINITE: [u32; 6] = [
+    0x7F80_0000,
+    0xFF80_0000,
+    0x7F80_0001,
+    0x7FC0_0000,
+    0xFFFF_FFFF,
+    0x7FFF_FFFF,
+];
+
+#[test]
+fn a_float_has_32_bits() {
+    for width in 1..=32 {
+        let file = file(&[&[1, 0, 4], &[2, 0, width, 2], &[3]]);
+        match width {
+            32 => assert!(is_accepted(&file)),
+            _ => assert_refused_at(&file, RANGE, 1, 3),
+        }
+    }
+    let with = |width, sign| file(&[&[1, 0, 4], &[2, 0, width, sign], &[3]]);
+    for sign in [3, 4, 128, 255] {
+        assert_refused_at(&with(32, sign), RANGE, 1, 3);
+    }
+    // The width is the lower byte.
+    for width in [0, 33, 255] {
+        assert_refused_at(&with(width, 2), RANGE, 1, 2);
+        assert_refused_at(&with(width, 3), RANGE, 1, 2);
+    }
+}
+
+#[test]
+fn a_float_has_no_mask() {
+    for filter in 0..=15 {
+        let file = float_with(filter, 0, 0, 0);
+        match filter {
+            2 | 3 | 6 | 7 | 14 | 15 => assert_refused_at(&file, RANGE, 1, 6),
+            _ => assert!(is_accepted(&file)),
+        }
+    }
+    // Byte 6 decides before the words, and byte 3 before byte 6.
+    assert_refused_at(&float_with(2, NOT_FINITE[0], 1, 0), RANGE, 1, 6);
+    let mut file = float_with(2, 0, 0, 0);
+    file[24 + 2] = 31;
+    assert_refused_at(&file, RANGE, 1, 3);
+}
+
+#[test]
+fn words_of_a_float_are_finite() {
+    let finite = [0, 1, 0x8000_0000, 0x3F80_0000, 0x7F7F_FFFF, 0xFF7F_FFFF];
+    for word in finite {
+        assert!(is_accepted(&float_with(0, 0, 0, word)));
+        assert!(is_accepted(&float_with(8, word, word, word)));
+        assert!(is_accepted(&float_with(9, word, 0, word)));
+    }
+    for word in NOT_FINITE {
+        for filter in [0, 1, 4, 5, 8, 9, 10, 11, 12, 13] {
+            let file = float_with(filter, 0, 0, word);
+            assert_refused_at(&file, WIDTH, 1, 16);
+        }
+        for filter in [8, 9] {
+            assert_refused_at(&float_with(filter, word, word, word), WIDTH, 1, 8);
+            assert_refused_at(&float_with(filter, 1, word, word), WIDTH, 1, 12);
+        }
+        // Of a whole number they are words like others.
+        for sign in [0, 1] {
+            let mut file = float_with(8, word, word, word);
+            file[24 + 3] = sign;
+            assert!(is_accepted(&file));
+        }
+    }
+}
+
+#[test]
+fn unused_words_of_a_float_are_zero() {
+    for filter in [0, 1, 4, 5, 10, 11, 12, 13] {
+        // Finite or not; -0 is not zero here.
+        for word in [1, 0x8000_0000, 0x3F80_0000].into_iter().chain(NOT_FINITE) {
+            assert_refused_at(&float_with(filter, word, 0, 0), UNUSED, 1, 8);
+            assert_refused_at(&float_with(filter, 0, word, 0), UNUSED, 1, 12);
+            assert_refused_at(&float_with(filter, 0, word, NOT_FINITE[0]), UNUSED, 1, 12);
         }
     }
 }

@@ -4,7 +4,7 @@
 use twin::agreement::agree;
 use twin::bits::{pack, unpack};
 use twin::filter::passes;
-use twin::layout::{Field, Frame, Layout, Message};
+use twin::layout::{Field, Frame, Layout, Message, Sign};
 use twin::node::{
     Node, ACCESS, ID, INVALIDATED, NOFUNC, NOT_RECEIVED, OK, RDA_FAILED, SUPPRESSED, VALUE,
 };
@@ -18,10 +18,10 @@ fn frame(length: usize, sent: bool) -> Frame {
     }
 }
 
-fn message(width: usize, signed: bool, sent: bool) -> Message {
+fn message(width: usize, sign: Sign, sent: bool) -> Message {
     Message {
         width,
-        signed,
+        sign,
         sent,
         agreement: 0,
         filter: 0,
@@ -63,7 +63,7 @@ fn with_status(frames: usize, filter: u8) -> Layout {
         frames: (0..frames).map(|_| frame(2, true)).collect(),
         messages: vec![Message {
             filter,
-            ..message(10, true, true)
+            ..message(10, Sign::Signed, true)
         }],
         fields: (0..frames).map(field).collect(),
     }
@@ -79,7 +79,7 @@ fn received(frames: usize, agreement: u8) -> Layout {
         frames: (0..frames).map(|_| frame(2, false)).collect(),
         messages: vec![Message {
             agreement,
-            ..message(8, true, false)
+            ..message(8, Sign::Signed, false)
         }],
         fields: (0..frames).map(field).collect(),
     }
@@ -104,32 +104,35 @@ fn received_of(node: &Node) -> (u8, Option<i64>) {
 
 #[test]
 fn p1_to_p4_packing() {
-    let packed = |value, signed, big, start, mut data: [u8; 2]| {
-        let layout = one(message(10, signed, true), big, start);
+    let packed = |value, sign, big, start, mut data: [u8; 2]| {
+        let layout = one(message(10, sign, true), big, start);
         pack(&layout, &layout.fields[0], value, &mut data);
         assert_eq!(unpack(&layout, &layout.fields[0], &data), value);
         data
     };
-    assert_eq!(packed(677, false, false, 3, [0, 0]), [0x28, 0x15]);
-    assert_eq!(packed(677, false, false, 3, [0xFF, 0xFF]), [0x2F, 0xF5]);
-    assert_eq!(packed(677, false, true, 3, [0, 0]), [0x15, 0x28]);
-    assert_eq!(packed(-1, true, false, 0, [0, 0]), [0xFF, 0x03]);
+    let (unsigned, signed) = (Sign::Unsigned, Sign::Signed);
+    assert_eq!(packed(677, unsigned, false, 3, [0, 0]), [0x28, 0x15]);
+    assert_eq!(packed(677, unsigned, false, 3, [0xFF, 0xFF]), [0x2F, 0xF5]);
+    assert_eq!(packed(677, unsigned, true, 3, [0, 0]), [0x15, 0x28]);
+    assert_eq!(packed(-1, signed, false, 0, [0, 0]), [0xFF, 0x03]);
 }
 
 #[test]
 fn p5_and_p6_average() {
-    assert_eq!(agree(1, &[-3, -4]), Some(-3));
-    assert_eq!(agree(1, &[4_294_967_295; 8]), Some(4_294_967_295));
-    assert_eq!(agree(1, &[3, 4]), Some(3));
+    assert_eq!(agree(1, Sign::Signed, &[-3, -4]), Some(-3));
+    let most = 4_294_967_295;
+    assert_eq!(agree(1, Sign::Unsigned, &[most; 8]), Some(most));
+    assert_eq!(agree(1, Sign::Signed, &[3, 4]), Some(3));
 }
 
 #[test]
 fn p7_to_p9_vote() {
-    assert_eq!(agree(2, &[5, 5, 9, 7]), Some(5));
-    assert_eq!(agree(2, &[5, 5, 9, 9]), None);
-    assert_eq!(agree(2, &[5]), Some(5));
-    assert_eq!(agree(2, &[7, 9, 5, 5]), Some(5));
-    assert_eq!(agree(2, &[5, 9]), None);
+    let vote = |values: &[i64]| agree(2, Sign::Signed, values);
+    assert_eq!(vote(&[5, 5, 9, 7]), Some(5));
+    assert_eq!(vote(&[5, 5, 9, 9]), None);
+    assert_eq!(vote(&[5]), Some(5));
+    assert_eq!(vote(&[7, 9, 5, 5]), Some(5));
+    assert_eq!(vote(&[5, 9]), None);
 }
 
 #[test]
@@ -162,7 +165,7 @@ fn p10_filter_by_closing() {
 
 #[test]
 fn send_at_the_edges_of_the_range() {
-    let layout = one(message(10, true, true), false, 0);
+    let layout = one(message(10, Sign::Signed, true), false, 0);
     let mut node = Node::start(&layout);
     assert_eq!(node.send(0, -512), OK);
     assert_eq!(node.send(0, 511), OK);
@@ -171,7 +174,7 @@ fn send_at_the_edges_of_the_range() {
         assert_eq!(node.send(0, value), VALUE);
     }
     assert_eq!(node, before);
-    let layout = one(message(10, false, true), false, 0);
+    let layout = one(message(10, Sign::Unsigned, true), false, 0);
     let mut node = Node::start(&layout);
     assert_eq!(node.send(0, 1023), OK);
     assert_eq!(node.send(0, 1024), VALUE);
@@ -184,7 +187,7 @@ fn filters() {
         filter,
         x1: x1 as u32,
         x2: x2 as u32,
-        ..message(10, true, true)
+        ..message(10, Sign::Signed, true)
     };
     for new in -512..=511 {
         assert!(passes(&with(0, 0, 0), new, 0));
@@ -256,7 +259,7 @@ fn tests_come_in_order() {
 
 #[test]
 fn invalidate() {
-    let layout = one(message(10, true, true), false, 0);
+    let layout = one(message(10, Sign::Signed, true), false, 0);
     assert_eq!(Node::start(&layout).invalidate(0), NOFUNC);
     let layout = with_status(1, 0);
     let mut node = Node::start(&layout);
@@ -275,7 +278,7 @@ fn invalidate() {
 #[test]
 fn event_frames() {
     let mut layout = with_status(1, 0);
-    layout.messages.push(message(2, false, true));
+    layout.messages.push(message(2, Sign::Unsigned, true));
     layout.fields.push(Field {
         status: Some(14),
         ..field(1, 0, 10)
@@ -401,7 +404,7 @@ fn wide_field_at_the_end_of_the_longest_frame() {
                 big,
                 ..frame(32, true)
             }],
-            messages: vec![message(32, true, true)],
+            messages: vec![message(32, Sign::Signed, true)],
             fields: vec![field(0, 0, 224)],
         };
         let mut node = Node::start(&layout);
@@ -416,4 +419,272 @@ fn wide_field_at_the_end_of_the_longest_frame() {
         assert_eq!(data[..28], [0; 28]);
         assert_eq!(data[28..], bytes);
     }
+}
+
+const PLUS_ZERO: u32 = 0;
+const MINUS_ZERO: u32 = 0x8000_0000;
+const ONE: u32 = 0x3F80_0000;
+const TWO: u32 = 0x4000_0000;
+const GREATEST: u32 = 0x7F7F_FFFF;
+const INFINITY: u32 = 0x7F80_0000;
+const QUIET: u32 = 0x7FC0_0000;
+const SIGNALLING: u32 = 0xFF80_0001;
+
+/// A float in so many frames of five bytes, its status bit at 32.
+fn floats(frames: usize, sent: bool, agreement: u8, filter: u8) -> Layout {
+    let field = |number| Field {
+        status: Some(32),
+        ..field(0, number, 0)
+    };
+    Layout {
+        frames: (0..frames).map(|_| frame(5, sent)).collect(),
+        messages: vec![Message {
+            agreement,
+            filter,
+            ..message(32, Sign::Float, sent)
+        }],
+        fields: (0..frames).map(field).collect(),
+    }
+}
+
+/// A closing with these instances, each in its own frame; one that does not count is none.
+fn close_with(node: &mut Node, instances: &[Option<u32>]) -> (u8, Option<u32>) {
+    for (number, &instance) in instances.iter().enumerate() {
+        let mut data = instance.unwrap_or(ONE).to_le_bytes().to_vec();
+        data.push(instance.is_some().into());
+        assert_eq!(node.deliver(number as u64, true, &data), OK);
+    }
+    node.close();
+    let (status, value) = received_of(node);
+    (status, value.map(|value| u32::try_from(value).unwrap()))
+}
+
+/// Status and value of one closing of a float with so many fields as instances.
+fn closed(agreement: u8, instances: &[u32]) -> (u8, Option<u32>) {
+    let layout = floats(instances.len(), false, agreement, 0);
+    let instances: Vec<Option<u32>> = instances.iter().copied().map(Some).collect();
+    close_with(&mut Node::start(&layout), &instances)
+}
+
+#[test]
+fn mean_of_floats() {
+    let half = 0x3F00_0000;
+    let third = 0x3EAA_AAAB;
+    assert_eq!(closed(1, &[ONE, TWO]), (OK, Some(0x3FC0_0000)));
+    assert_eq!(closed(1, &[ONE, PLUS_ZERO]), (OK, Some(half)));
+    assert_eq!(closed(1, &[ONE, PLUS_ZERO, PLUS_ZERO]), (OK, Some(third)));
+    assert_eq!(closed(1, &[GREATEST]), (OK, Some(GREATEST)));
+    // Not a sum of bit patterns.
+    assert_eq!(closed(1, &[ONE, ONE]), (OK, Some(ONE)));
+}
+
+#[test]
+fn mean_of_zeros() {
+    assert_eq!(closed(1, &[MINUS_ZERO]), (OK, Some(MINUS_ZERO)));
+    assert_eq!(closed(1, &[MINUS_ZERO; 2]), (OK, Some(MINUS_ZERO)));
+    assert_eq!(closed(1, &[MINUS_ZERO; 8]), (OK, Some(MINUS_ZERO)));
+    assert_eq!(closed(1, &[MINUS_ZERO, PLUS_ZERO]), (OK, Some(PLUS_ZERO)));
+    assert_eq!(closed(1, &[ONE, ONE | MINUS_ZERO]), (OK, Some(PLUS_ZERO)));
+    // The half of the least float below zero is a tie, and zero is even.
+    assert_eq!(
+        closed(1, &[0x8000_0001, MINUS_ZERO]),
+        (OK, Some(MINUS_ZERO))
+    );
+    assert_eq!(
+        closed(1, &[0x8000_0003, MINUS_ZERO]),
+        (OK, Some(0x8000_0002))
+    );
+}
+
+#[test]
+fn each_step_is_rounded_to_the_even_one() {
+    // 2^24 + 1 lies in the middle of 2^24 and 2^24 + 2, and so each 1 is lost.
+    let two_to_24 = 0x4B80_0000;
+    let two_to_22 = 0x4A80_0000;
+    assert_eq!(
+        closed(1, &[two_to_24, ONE, ONE, PLUS_ZERO]),
+        (OK, Some(two_to_22))
+    );
+    // In another order both are kept.
+    assert_eq!(
+        closed(1, &[ONE, ONE, two_to_24, PLUS_ZERO]),
+        (OK, Some(two_to_22 + 1))
+    );
+    // 2^24 + 2 + 1 lies in the middle of 2^24 + 2 and 2^24 + 4, of which the second is even.
+    assert_eq!(
+        closed(1, &[two_to_24 + 1, ONE]),
+        (OK, Some(two_to_24 + 2 - 0x0080_0000))
+    );
+}
+
+#[test]
+fn a_sum_that_is_infinite_stays_so() {
+    let minus = |float: u32| float | MINUS_ZERO;
+    assert_eq!(closed(1, &[GREATEST, GREATEST]), (RDA_FAILED, None));
+    for later in [minus(GREATEST), minus(ONE), PLUS_ZERO] {
+        let instances = [GREATEST, GREATEST, later, later];
+        assert_eq!(closed(1, &instances), (RDA_FAILED, None));
+    }
+    let instances = [minus(GREATEST), minus(GREATEST), GREATEST];
+    assert_eq!(closed(1, &instances), (RDA_FAILED, None));
+    // The same values in an order without such a sum.
+    let third = 0x7EAA_AAAA;
+    let instances = [GREATEST, minus(GREATEST), GREATEST];
+    assert_eq!(closed(1, &instances), (OK, Some(third)));
+    // A half of the last place of the greatest is a tie, which is infinite; less is lost.
+    assert_eq!(closed(1, &[GREATEST, 0x7300_0000]), (RDA_FAILED, None));
+    assert_eq!(
+        closed(1, &[GREATEST, 0x72FF_FFFF]),
+        (OK, Some(GREATEST - 0x0080_0000))
+    );
+}
+
+#[test]
+fn not_finite_floats_are_left_out() {
+    for aside in [INFINITY, INFINITY | MINUS_ZERO, QUIET, SIGNALLING] {
+        // Not in the sum, not in the divisor.
+        assert_eq!(closed(1, &[aside, ONE, TWO]), (OK, Some(0x3FC0_0000)));
+        assert_eq!(closed(1, &[ONE, TWO, aside]), (OK, Some(0x3FC0_0000)));
+        assert_eq!(closed(1, &[aside, MINUS_ZERO]), (OK, Some(MINUS_ZERO)));
+        assert_eq!(closed(0, &[aside, TWO, ONE]), (OK, Some(TWO)));
+        assert_eq!(closed(2, &[aside, aside, ONE]), (OK, Some(ONE)));
+        assert_eq!(
+            closed(2, &[aside, aside, ONE, TWO, aside]),
+            (RDA_FAILED, None)
+        );
+    }
+}
+
+#[test]
+fn all_set_aside_and_none_counting() {
+    for agreement in 0..=2 {
+        let layout = floats(2, false, agreement, 0);
+        let mut node = Node::start(&layout);
+        assert_eq!(
+            close_with(&mut node, &[Some(INFINITY), Some(QUIET)]),
+            (RDA_FAILED, None)
+        );
+        assert_eq!(
+            close_with(&mut node, &[None, Some(SIGNALLING)]),
+            (RDA_FAILED, None)
+        );
+        assert_eq!(close_with(&mut node, &[None, None]), (INVALIDATED, None));
+        assert_eq!(close_with(&mut node, &[]), (NOT_RECEIVED, None));
+        assert_eq!(close_with(&mut node, &[None, Some(ONE)]), (OK, Some(ONE)));
+    }
+}
+
+#[test]
+fn votes_of_floats_compare_patterns() {
+    assert_eq!(closed(2, &[PLUS_ZERO, MINUS_ZERO]), (RDA_FAILED, None));
+    assert_eq!(
+        closed(2, &[PLUS_ZERO, MINUS_ZERO, MINUS_ZERO]),
+        (OK, Some(MINUS_ZERO))
+    );
+    assert_eq!(
+        closed(2, &[PLUS_ZERO, MINUS_ZERO, ONE, ONE]),
+        (OK, Some(ONE))
+    );
+}
+
+#[test]
+fn filters_of_floats() {
+    let with = |filter, x1: u32, x2: u32| Message {
+        filter,
+        x1,
+        x2,
+        ..message(32, Sign::Float, true)
+    };
+    // In the order of their numbers, the two zeros beside each other.
+    let minus = |float: u32| float | MINUS_ZERO;
+    let floats = [
+        minus(GREATEST),
+        minus(TWO),
+        minus(ONE),
+        minus(1),
+        MINUS_ZERO,
+        PLUS_ZERO,
+        1,
+        2,
+        ONE,
+        TWO,
+        GREATEST,
+    ];
+    // Both zeros are the number at the place of the first.
+    let number = |place: usize| if place == 5 { 4 } else { place };
+    for (i, new) in floats.into_iter().enumerate() {
+        for (j, other) in floats.into_iter().enumerate() {
+            let passes = |filter, x1, x2| {
+                let (new, old) = (i64::from(new), i64::from(other));
+                passes(&with(filter, x1, x2), new, old)
+            };
+            let (i_number, j_number) = (number(i), number(j));
+            assert!(passes(0, 0, 0));
+            assert!(!passes(1, 0, 0));
+            assert_eq!(passes(4, 0, 0), i == j);
+            assert_eq!(passes(5, 0, 0), i != j);
+            assert_eq!(passes(10, 0, 0), i_number > j_number);
+            assert_eq!(passes(11, 0, 0), i_number <= j_number);
+            assert_eq!(passes(12, 0, 0), i_number < j_number);
+            assert_eq!(passes(13, 0, 0), i_number >= j_number);
+            assert_eq!(passes(8, other, GREATEST), i_number >= j_number);
+            assert_eq!(passes(8, minus(GREATEST), other), i_number <= j_number);
+            assert_eq!(passes(9, other, GREATEST), i_number < j_number);
+            assert_eq!(passes(9, minus(GREATEST), other), i_number > j_number);
+            assert_eq!(passes(8, other, other), i_number == j_number);
+        }
+    }
+    // Nothing passes between 1 and -1.
+    assert!(!passes(&with(8, ONE, minus(ONE)), 0, 0));
+}
+
+#[test]
+fn zeros_put_to_filters() {
+    let second = |filter, first, second| {
+        let layout = floats(1, false, 0, filter);
+        let mut node = Node::start(&layout);
+        close_with(&mut node, &[Some(first)]);
+        close_with(&mut node, &[Some(second)])
+    };
+    let (filtered, zero) = ((NOT_RECEIVED, None), (OK, Some(MINUS_ZERO)));
+    assert_eq!(second(4, PLUS_ZERO, MINUS_ZERO), filtered);
+    assert_eq!(second(4, MINUS_ZERO, MINUS_ZERO), zero);
+    assert_eq!(second(5, PLUS_ZERO, MINUS_ZERO), zero);
+    assert_eq!(second(10, PLUS_ZERO, MINUS_ZERO), filtered);
+    assert_eq!(second(11, PLUS_ZERO, MINUS_ZERO), zero);
+    assert_eq!(second(12, PLUS_ZERO, MINUS_ZERO), filtered);
+    assert_eq!(second(13, PLUS_ZERO, MINUS_ZERO), zero);
+}
+
+#[test]
+fn what_does_not_reach_the_filter_is_not_the_old_value() {
+    let layout = floats(2, false, 1, 10);
+    let mut node = Node::start(&layout);
+    assert_eq!(close_with(&mut node, &[Some(ONE)]), (OK, Some(ONE)));
+    assert_eq!(close_with(&mut node, &[Some(INFINITY)]), (RDA_FAILED, None));
+    let overflow = [Some(GREATEST), Some(GREATEST)];
+    assert_eq!(close_with(&mut node, &overflow), (RDA_FAILED, None));
+    assert_eq!(close_with(&mut node, &[Some(TWO)]), (OK, Some(TWO)));
+    assert_eq!(close_with(&mut node, &[Some(ONE)]), (NOT_RECEIVED, None));
+}
+
+#[test]
+fn send_of_floats() {
+    let layout = floats(1, true, 0, 0);
+    let mut node = Node::start(&layout);
+    for float in [PLUS_ZERO, 1, ONE, GREATEST, GREATEST | MINUS_ZERO] {
+        assert_eq!(node.send(0, float.into()), OK);
+        let mut data = [0; 5];
+        assert_eq!(node.assemble(0, &mut data), OK);
+        assert_eq!(data[..4], float.to_le_bytes());
+        assert_eq!(data[4], 1);
+    }
+    let before = node.clone();
+    for float in [INFINITY, INFINITY | MINUS_ZERO, QUIET, SIGNALLING, u32::MAX] {
+        assert_eq!(node.send(0, float.into()), VALUE);
+    }
+    for value in [-1, 1 << 32, i64::MIN, i64::MAX, i64::from(ONE) - (1 << 32)] {
+        assert_eq!(node.send(0, value), VALUE);
+    }
+    assert_eq!(node, before);
 }

@@ -4,3 +4,7 @@ pub mod Quotient
 pub mod Vote
 pub mod Average
 pub mod Order
+pub mod Running
+pub mod Passed
+pub mod FloatLaws
+pub mod FloatExamples

@@ -1,10 +1,13 @@
-// Agreement on the counting instances of one message: pick any, average, vote. The instances come in frame order.
+// Agreement on the counting instances of one message: pick any, average, vote. The instances come in frame order; those of floats are patterns.
 ghost use mathlib.Core.Path.{_≡_};
 ghost use mathlib.Core.Bool.{true};
 ghost use Prim.Native.Nat.{_≤_, _^_};
 ghost use lib.IntN.{natAbs};
+ghost use lib.ListN.{length, take};
 ghost use Rattle.whole.specs.Whole.{allOf};
 ghost use Rattle.agreement.specs.Agreement.{messageValue, group, sumOf, average, pickAny, countOf, ahead, vote, agreed};
+ghost use Rattle.agreement.specs.Floats.{leftOf, floatMean, floatsAgreed};
+use float::FloatMean;
 
 // What an agreement comes to.
 pub enum Agreed {
@@ -113,4 +116,52 @@ pub fn agree(agreement: u8, instances: &[i64]) -> Agreed
         2 => voted(instances),
         _ => Agreed::NoResult,
     }
+}
+
+// ---- floats
+
+// The instances that are not set aside go to the front of the array, in their order.
+fn set_aside(instances: &[i64], left: &mut [i64; 8]) -> usize
+    requires { ⌜ (length (now instances) ≤ 8) × (length (now left) ≡ 8) ⌝ }
+    ensures { λ n. ⌜ (n ≤ 8) × (length (now (left .exit)) ≡ 8) × (take n (now (left .exit)) ≡ leftOf (now (instances .entry))) ⌝ }
+{
+    let mut n = 0;
+    for j in 0..instances.len() {
+        let v = instances[j];
+        if !float::is_aside(packing::pattern_of(v)) {
+            left[n] = v;
+            n += 1;
+        }
+    }
+    n
+}
+
+// `add` leaves out what is set aside.
+fn float_mean(instances: &[i64]) -> Agreed
+    requires { ⌜ length (now instances) ≤ 8 ⌝ }
+    ensures { λ r. ⌜ r ≡ floatMean (leftOf (now (instances .entry))) ⌝ }
+{
+    let mut s = float::no_sum();
+    for j in 0..instances.len() {
+        s = float::add(s, packing::pattern_of(instances[j]));
+    }
+    match float::divide(s) {
+        FloatMean::Pattern(x) => Agreed::Value(x as i64),
+        FloatMean::NoResult => Agreed::NoResult,
+    }
+}
+
+// What the agreement of that number makes of floats. A mean needs no array of those that are left.
+pub fn agree_floats(agreement: u8, instances: &[i64]) -> Agreed
+    ensures { λ r. ⌜ r ≡ floatsAgreed agreement (now (instances .entry)) ⌝ }
+{
+    if 8 < instances.len() {
+        return Agreed::NoResult;
+    }
+    if agreement == 1 {
+        return float_mean(instances);
+    }
+    let mut left = [0i64; 8];
+    let n = set_aside(instances, &mut left);
+    agree(agreement, &left[..n])
 }

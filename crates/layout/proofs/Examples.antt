@@ -1,14 +1,27 @@
--- A table of files and their verdicts, checked by computing: the paper's example, the empty file, for each refusal files that earn it, and for each kind
--- of record what a wrong byte earns, byte by byte.
+-- A table of files and their verdicts, checked by computing: the paper's example, the empty file, for each refusal files that earn it, what floats earn,
+-- and for each kind of record what a wrong byte earns, byte by byte.
 -- Assumes nothing.
 use mathlib.Core.Path.{_≡_, refl, ap}
 use mathlib.Core.List.{List, [], _∷_, _++_, map}
 use Prim.Native.Nat.{ℕ, zero, suc, _+_, _-_}
 use lib.ListN.{length, getD, replicate, set}
 use Rattle.packing.specs.Values.{isWidth, extend, extended}
+use Rattle.float.specs.Patterns.{aside}
 use Rattle.record.specs.Numbers.{tally, anyBelow, leastBelow}
 use Rattle.record.specs.Records.{byteAt, wordAt, isFrame, isMessage, isField, frameAt, messageAt, fieldAt, pairBelow}
-use Rattle.record.specs.Ranges.{wrongIf, wordFinding, frameFinding, messageFinding, fieldFinding, findingOf, findingAt, wrongAt, lowestFault, rangeFault}
+use Rattle.record.specs.Ranges.{
+  wrongIf,
+  wordFits,
+  wordFinding,
+  frameFinding,
+  messageFinding,
+  fieldFinding,
+  findingOf,
+  findingAt,
+  wrongAt,
+  lowestFault,
+  rangeFault,
+}
 use Rattle.record.specs.Runs.{pastEnd, meet, clash}
 use Rattle.record.specs.declared.Fault.{Fault}
 use Rattle.layout.specs.Counts.{countsBefore}
@@ -124,6 +137,49 @@ byte-rows =
     ++ each-byte (small 2) 24 (message-answers Fault.Width)
     ++ each-byte (small 0) 48 field-answers
 
+-- ---- floats
+
+-- message 0, a received float with this filter, and the bytes of its words
+float : ℕ → List ℕ → List ℕ
+float filter words = filled ((2 ∷ 0 ∷ 32 ∷ 2 ∷ 0 ∷ 0 ∷ filter ∷ 0 ∷ []) ++ words)
+
+-- the words 00000000 and 80000000, and 7F800000 and FFC00000, which are not finite
+zero-word : List ℕ
+zero-word = replicate 4 0
+
+minus-zero : List ℕ
+minus-zero = 0 ∷ 0 ∷ 0 ∷ 128 ∷ []
+
+infinity : List ℕ
+infinity = 0 ∷ 0 ∷ 128 ∷ 127 ∷ []
+
+not-a-number : List ℕ
+not-a-number = 0 ∷ 0 ∷ 192 ∷ 255 ∷ []
+
+float-rows : List Row
+float-rows =
+    -- filter 8 from -0 to the greatest float, and the least above 0 as the initial value
+    row (frame 0 4 ++ float 8 (minus-zero ++ 255 ∷ 255 ∷ 127 ∷ 127 ∷ 1 ∷ []) ++ field 0 0) (Verdict.Accepted 1 1 1)
+    -- RANGE: sign 3; a float of 31 bits, and of 33, where the width's byte is the lower
+    ∷ row (filled (2 ∷ 0 ∷ 32 ∷ 3 ∷ [])) (wrong 0 Fault.Range 3)
+    ∷ row (filled (2 ∷ 0 ∷ 31 ∷ 2 ∷ [])) (wrong 0 Fault.Range 3)
+    ∷ row (filled (2 ∷ 0 ∷ 33 ∷ 2 ∷ [])) (wrong 0 Fault.Range 2)
+    -- RANGE: each mask
+    ∷ row (float 2 []) (wrong 0 Fault.Range 6)
+    ∷ row (float 3 []) (wrong 0 Fault.Range 6)
+    ∷ row (float 6 []) (wrong 0 Fault.Range 6)
+    ∷ row (float 7 []) (wrong 0 Fault.Range 6)
+    -- WIDTH: x1, x2 and an initial value that are not finite
+    ∷ row (float 8 not-a-number) (wrong 0 Fault.Width 8)
+    ∷ row (float 8 (zero-word ++ not-a-number)) (wrong 0 Fault.Width 12)
+    ∷ row (float 0 (zero-word ++ zero-word ++ infinity)) (wrong 0 Fault.Width 16)
+    -- UNUSED: an x1 that filter 0 does not use, finite or not
+    ∷ row (float 0 minus-zero) (wrong 0 Fault.Unused 8)
+    ∷ row (float 0 infinity) (wrong 0 Fault.Unused 8)
+    -- in an unsigned message that word is right, and only a field is lacking
+    ∷ row (filled (2 ∷ 0 ∷ 32 ∷ 0 ∷ 0 ∷ 0 ∷ 8 ∷ 0 ∷ infinity)) (Verdict.Refused Refusal.NoField 0)
+    ∷ []
+
 -- ---- the table
 
 pub rows : List Row
@@ -164,16 +220,17 @@ rows =
     ∷ row (frame 0 2 ++ message 10 ++ filled (3 ∷ 0 ∷ 0 ∷ 3 ∷ 1 ∷ 12 ∷ [])) (Verdict.Refused Refusal.Place 2)
     -- NOFIELD
     ∷ row (frame 0 2 ++ message 10) (Verdict.Refused Refusal.NoField 1)
-    ∷ byte-rows
+    ∷ float-rows ++ byte-rows
 
 pub examples : map (λ r. verdict (r .file)) rows ≡ map (λ r. r .answer) rows
 unfolding
     rows row frame message field frames fields messages filled
     from small each-byte frame-answers message-answers field-answers byte-rows
-    extended isWidth extend
+    float zero-word minus-zero infinity not-a-number float-rows
+    extended isWidth extend aside
     tally anyBelow leastBelow
     byteAt wordAt isFrame isMessage isField frameAt messageAt fieldAt countsBefore
-    wrongIf wordFinding frameFinding messageFinding fieldFinding findingOf findingAt wrongAt lowestFault rangeFault
+    wrongIf wordFits wordFinding frameFinding messageFinding fieldFinding findingOf findingAt wrongAt lowestFault rangeFault
     sizeFault pairBelow orderFault refFault isFieldOf unlike groupFault
     pastEnd meet clash clashAt placeFault fails refusalOf noField complete failsAt refusalAt judged verdict
 examples = refl

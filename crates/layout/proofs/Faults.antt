@@ -2,7 +2,7 @@
 -- record/proofs/Tests.antt, and the parts of what they say are put into the records of specs/WellLaid.antt by search.
 -- Assumes nothing.
 use mathlib.Core.Path.{_≡_, refl, ap}
-use mathlib.Core.Bool.{Bool, true, false, cond, _&&_, true≢false}
+use mathlib.Core.Bool.{Bool, true, false, cond, _&&_, _||_, true≢false}
 use mathlib.Core.List.{List}
 use mathlib.Core.Logic.{_↔_, Iff·rfl, ⊎-map}
 use Prim.Native.Nat.{ℕ, _+_, _-_, _*_, _<_, _≤_}
@@ -15,6 +15,9 @@ use borrow.Author.Tests.{ne-eqb}
 use Rattle.record.specs.Records.{byteAt, isFrame, isMessage, isField, frameAt, messageAt, fieldAt, pairBelow}
 use Rattle.record.specs.Ranges.{
   wrongIf,
+  isMask,
+  isFloat,
+  wordFits,
   wordFinding,
   frameFindings,
   messageFindings,
@@ -78,8 +81,20 @@ first-right true fault next = (λ e. absurd (true≢false (ap isWrong e)), λ h.
 first-right false fault next = (λ e. (refl, e), λ h. h .1)
 
 word-right : (g : Message) (used : Bool) (x : ℕ) → (wordFinding g used x ≡ Finding.Right) ↔ Word g used x
-unfolding wordFinding
+unfolding wordFinding wordFits
 word-right g used x = simp (first-right, wrong-if-right, meanings) (λ h. search, λ w. search)
+
+-- what is demanded of a message's filter
+record Filter (g : Message) : Type 0 where
+  pub filter : g .filter ≤ 13
+  pub float-filter : g .sign ≡ 2 → isMask (g .filter) ≡ false
+
+filter-right : (g : Message) → (wrongIf (ltb 13 (g .filter) || (isFloat g && isMask (g .filter))) Fault.Range ≡ Finding.Right) ↔ Filter g
+filter-right g =
+    simp (wrong-if-right, meanings) (
+      λ h. record { filter = h .0; float-filter = λ e. simp meanings (h .1 e) },
+      λ w. (w .filter, λ e. simp meanings at (w .float-filter e)),
+    )
 
 -- of the bytes that are not named, byte 7 alone stands in the list of what is found in a message
 byte-seven :
@@ -113,7 +128,7 @@ module _ (s : List ℕ) (i : ℕ) where
   unfolding findingAt findingOf messageFinding
   message-right m kind =
       let listed = bytes-right (messageFindings (messageAt s i) (nonzeroAt s i 7)) (omega arith) (λ k. rw kind (byte-seven (messageAt s i) (nonzeroAt s i) k)) in
-      simp (listed, nothing-said, word-right, wrong-if-right, meanings) (λ h. search arith depth 20, λ w. search arith depth 20)
+      simp (listed, nothing-said, word-right, filter-right, wrong-if-right, meanings) (λ h. search arith depth 20, λ w. search arith depth 20)
 
   pub field-right :
       byteAt s i 0 ≡ 3

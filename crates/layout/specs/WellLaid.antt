@@ -9,8 +9,9 @@ use Prim.Native.Nat.{ℕ, _+_, _*_, _<_, _≤_}
 use lib.Dec.{eqb}
 use lib.ListN.{length}
 use Rattle.packing.specs.Values.{extended}
+use Rattle.float.specs.Patterns.{aside}
 use Rattle.record.specs.Records.{byteAt, frameAt, messageAt, fieldAt}
-use Rattle.record.specs.Ranges.{usesX1, usesX2}
+use Rattle.record.specs.Ranges.{usesX1, usesX2, isMask}
 use Rattle.record.specs.declared.Frame.{Frame}
 use Rattle.record.specs.declared.Message.{Message}
 use Rattle.record.specs.declared.Field.{Field}
@@ -32,9 +33,10 @@ pub record FrameRecord (s : List ℕ) (i f : ℕ) : Type 0 where
   pub trigger : frameAt s i .trigger ≤ 1
   pub zeros : ZeroFrom 6 s i
 
--- a word of a message is extended from the width, and zero where the filter does not use it
+-- a word of a message is extended from the width, that of a float is finite, and it is zero where the filter does not use it
 pub record Word (g : Message) (used : Bool) (x : ℕ) : Type 0 where
   pub fits : extended (eqb (g .sign) 1) (g .width) x ≡ true
+  pub finite : g .sign ≡ 2 → aside x ≡ false
   pub unused : used ≡ false → x ≡ 0
 
 -- record i is that of message m
@@ -44,11 +46,13 @@ pub record MessageRecord (s : List ℕ) (i m : ℕ) : Type 0 where
   pub number-below : m < 32
   pub width-from : 1 ≤ messageAt s i .width
   pub width-to : messageAt s i .width ≤ 32
-  pub sign : messageAt s i .sign ≤ 1
+  pub sign : messageAt s i .sign ≤ 2
+  pub float-width : messageAt s i .sign ≡ 2 → messageAt s i .width ≡ 32
   pub direction : messageAt s i .direction ≤ 1
   pub agreement : messageAt s i .agreement ≤ 2
   pub sent-agreement : messageAt s i .direction ≡ 1 → messageAt s i .agreement ≡ 0
   pub filter : messageAt s i .filter ≤ 13
+  pub float-filter : messageAt s i .sign ≡ 2 → isMask (messageAt s i .filter) ≡ false
   pub x1 : Word (messageAt s i) (usesX1 (messageAt s i .filter)) (messageAt s i .x1)
   pub x2 : Word (messageAt s i) (usesX2 (messageAt s i .filter)) (messageAt s i .x2)
   pub initial : Word (messageAt s i) true (messageAt s i .initial)

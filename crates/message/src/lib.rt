@@ -1,6 +1,6 @@
 // What a call or a closing makes of one message and of one field, by value: no memory.
 ghost use mathlib.Core.Path.{_≡_};
-ghost use Rattle.message.specs.Messages.{passesNow, offered, invalidated, withStatus, filtered, agreedOn};
+ghost use Rattle.message.specs.Messages.{canHold, agreedBy, offered, invalidated, withStatus, filtered, agreedOn};
 ghost use Rattle.message.specs.Fields.{staged, stageAfter, isGone, writes};
 use agreement::Agreed;
 use store::Field;
@@ -17,10 +17,13 @@ pub enum Change {
 
 // ---- a message
 
-fn is_passed(g: Message, value: i64) -> bool
-    ensures { λ r. ⌜ r ≡ passesNow g value ⌝ }
+// Whether the message can hold the value.
+pub fn can_hold(g: Message, value: i64) -> bool
+    ensures { λ r. ⌜ r ≡ canHold g value ⌝ }
 {
-    filter::passes(g.filter, g.sign == 1, g.x1, g.x2, value, g.old)
+    let in_range = packing::in_range(value, g.width, g.sign == 1);
+    let aside = float::is_aside(packing::pattern_of(value));
+    in_range & !((g.sign == 2) & aside)
 }
 
 // The message after a value was put to its filter.
@@ -29,7 +32,7 @@ pub fn offered_message(g: Message, value: i64) -> Message
 {
     let mut h = g;
     h.old = value;
-    if is_passed(g, value) {
+    if filter::passes(g.filter, g.sign, g.x1, g.x2, value, g.old) {
         h.valid = 1;
         h.held = value;
         return h;
@@ -60,13 +63,23 @@ fn filtered_message(g: Message, agreed: i64) -> Message
 {
     let mut h = g;
     h.old = agreed;
-    if is_passed(g, agreed) {
+    if filter::passes(g.filter, g.sign, g.x1, g.x2, agreed, g.old) {
         h.status = 0;
         h.held = agreed;
         return h;
     }
     h.status = 21;
     h
+}
+
+// What the counting instances agree on.
+pub fn agree_by(g: Message, instances: &[i64]) -> Agreed
+    ensures { λ r. ⌜ r ≡ agreedBy g (now (instances .entry)) ⌝ }
+{
+    if g.sign == 2 {
+        return agreement::agree_floats(g.agreement, instances);
+    }
+    agreement::agree(g.agreement, instances)
 }
 
 pub fn agreed_message(g: Message, agreed: Agreed) -> Message

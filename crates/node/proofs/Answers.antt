@@ -7,8 +7,8 @@ use native.Mathlib.Omega.{arith}
 use lib.Dec.{ltb, eqb}
 use lib.IntN.{ℤ}
 use borrow.Author.Tests.{ltb-true, eqb-true, not-false}
-use Rattle.packing.specs.Values.{inRange}
-use Rattle.store.specs.Node.{Node, frameCount, messageCount, isSigned, isSent, hasStatusBit, isSentFrame, frameAt, messageAt}
+use Rattle.store.specs.Node.{Node, frameCount, messageCount, isSent, hasStatusBit, isSentFrame, frameAt, messageAt}
+use Rattle.message.specs.Messages.{canHold}
 use Rattle.node.specs.Calls.{sendAnswer, invalidateAnswer, assembleAnswer, deliverAnswer, receiveAnswer}
 
 -- one test, and the tests after it
@@ -28,12 +28,12 @@ in-memory i number k r e = omega (arith, known i number k r e)
 
 module _ (n : Node) where
   pub send-tests : (m : ℕ) (v : ℤ) → sendAnswer n m v ≡ 0
-      → (m < n .message-number) × (inRange (isSigned (messageAt n m)) (messageAt n m .width) v ≡ true)
+      → (m < n .message-number) × (canHold (messageAt n m) v ≡ true)
   unfolding sendAnswer
   send-tests m v e =
       let number = known m (n .message-number) _ _ e in
       let access = passed (not (isSent (messageAt n m))) _ _ (number .1) in
-      let value = passed (not (inRange (isSigned (messageAt n m)) (messageAt n m .width) v)) _ _ (access .1) in
+      let value = passed (not (canHold (messageAt n m) v)) _ _ (access .1) in
       (omega arith, not-false _ (value .0))
 
   pub send-access : (m : ℕ) (v : ℤ) → sendAnswer n m v ≡ 0 → isSent (messageAt n m) ≡ true

@@ -1,32 +1,40 @@
 -- The values of a message's counting instances, and the value that they agree on. What stands at the places of a message of w bits is below 2 ^ w,
 -- since there are w of them, or none; so its value is in the range of w bits, or zero where w is no width. And an agreed value lies between any two
--- bounds between which the instances lie: pick any and vote give an instance, and the mean lies between the least and the greatest.
+-- bounds between which the instances lie: pick any and vote give an instance, and the mean lies between the least and the greatest. What floats agree
+-- on is a finite pattern.
 -- Assumes nothing.
-use mathlib.Core.Path.{_≡_, refl}
+use mathlib.Core.Path.{_≡_, refl, subst}
 use mathlib.Core.Bool.{Bool, true, false, _&&_, cond, and-eq-true-iff}
 use mathlib.Core.List.{List, [], _∷_, map}
-use Prim.Native.Nat.{ℕ, zero, suc, _^_, _<_}
+use Prim.Native.Nat.{ℕ, zero, suc, _+_, _-_, _^_, _<_, _≤_}
 use native.Mathlib.Decide.{decLt}
 use native.Mathlib.Omega.{arith}
-use lib.IntN.{ℤ}
+use lib.Dec.{leb}
+use lib.IntN.{ℤ, pos}
+use lib.ListN.{length, length-map}
 use lib.Pow.{pow-pos}
-use borrow.Author.Tests.{le-leb}
+use borrow.Author.Tests.{le-leb, leb-true, ltb-true}
 use Rattle.whole.specs.Whole.{allOf}
 use Rattle.packing.specs.Places.{inFrame, places, placesIn, unpacked}
 use Rattle.packing.specs.Values.{isWidth, least, greatest, inRange, valueOf}
 use Rattle.packing.proofs.Frame.{unpacked-below}
 use Rattle.packing.proofs.Places.{placesIn-places, placesIn-none, places-length, in-frame-bounds}
 use Rattle.packing.proofs.Values.{value-range, value-low, range-wider}
-use Rattle.agreement.specs.Agreement.{ahead, oneThat, vote, agreed}
+use Rattle.agreement.specs.Agreement.{agreed}
+use Rattle.agreement.specs.Floats.{floatsAgreed}
 use Rattle.agreement.specs.declared.Agreed.the-variants.{Value}
 use Rattle.agreement.proofs.Average.{mean-between, average-value}
 use Rattle.agreement.proofs.Group.{between, group-parts}
+use Rattle.agreement.proofs.Passed.{picked-passes, voted-passes, all-left, floats-pass, agreed-finite}
 use Rattle.store.specs.declared.Message.{Message}
 use Rattle.store.specs.declared.Field.{Field}
-use Rattle.store.specs.Node.{Node, isSigned}
+use Rattle.store.specs.Node.{Node, isSigned, isFloat, messageAt}
+use Rattle.message.specs.Messages.{canHold, agreedBy}
+use Rattle.message.proofs.Held.{float-unsigned, holds-whole, holds-float}
 use Rattle.node.specs.declared.Owner.{Owner}
 use Rattle.node.specs.Own.{chosen, own}
 use Rattle.node.specs.Closing.{counts, valueIn, instances}
+use Rattle.node.proofs.Lists.{chosen-few}
 
 -- ---- the value of what stands at a message's places
 
@@ -68,29 +76,19 @@ module _ (n : ℕ) (big : Bool) (start w : ℕ) (f : List ℕ) where
 
 -- ---- the agreed value
 
--- what a search finds passes each test that all pass
-found-passes : (q p : ℤ → Bool) (l : List ℤ) (v : ℤ) → allOf q l ≡ true → oneThat p l ≡ Value v → q v ≡ true
-unfolding allOf oneThat
-found-passes q p [] v t e = cc
-found-passes q p (u ∷ l) v t e =
-    let parts = and-eq-true-iff (q u) (allOf q l) .0 t in
-    go (p u) e (parts .0) (found-passes q p l v (parts .1))
-  where
-    go : (b : Bool) → cond b (Value u) (oneThat p l) ≡ Value v → q u ≡ true → (oneThat p l ≡ Value v → q v ≡ true) → q v ≡ true
-    go true found here later = cc
-    go false found here later = later found
-
 agreed-between : (lo hi : ℤ) (k : ℕ) (l : List ℤ) (v : ℤ) → allOf (between lo hi) l ≡ true → agreed k l ≡ Value v → between lo hi v ≡ true
-unfolding agreed vote allOf
-agreed-between lo hi zero [] v t e = cc
-agreed-between lo hi zero (u ∷ l) v t e =
-    let same : u ≡ v = cc in
-    rw same at (and-eq-true-iff (between lo hi u) (allOf (between lo hi) l) .0 t .0)
+unfolding agreed
+agreed-between lo hi zero l v t e = picked-passes (between lo hi) l v t e
 agreed-between lo hi (suc zero) l v t e =
     let mean = average-value l v .0 e in
     rw (mean .1) (mean-between lo hi l (group-parts l (mean .0) .0) t)
-agreed-between lo hi (suc (suc zero)) l v t e = found-passes (between lo hi) (ahead l) l v t e
+agreed-between lo hi (suc (suc zero)) l v t e = voted-passes (between lo hi) l v t e
 agreed-between lo hi (suc (suc (suc k))) l v t e = cc
+
+-- the value of a pattern is an unsigned one of 32 bits
+pattern-in-range : (x : ℕ) → x < 2 ^ 32 → inRange false 32 (pos x) ≡ true
+unfolding inRange isWidth least greatest
+pattern-in-range x h = and-eq-true-iff (leb 0 x) (leb x (2 ^ 32 - 1)) .1 (le-leb 0 x (omega arith), le-leb x (2 ^ 32 - 1) (omega arith))
 
 all-mapped : {A : Type 0} (p : ℤ → Bool) (f : A → ℤ) (l : List A) → ((x : A) → p (f x) ≡ true) → allOf p (map f l) ≡ true
 unfolding allOf
@@ -104,22 +102,59 @@ module _ (n : Node) (m : ℕ) (g : Message) where
   unfolding instances
   all-instances p h = all-mapped p (valueIn n g) (chosen (λ d x. own n (Owner.Message m) d x && counts n x) 0 (n .fields)) h
 
+  -- there are at most eight, in any node
+  pub instances-few : length (instances n m g) ≤ 8
+  unfolding instances own
+  instances-few =
+      let lo = messageAt n m .first in
+      let inside : (d : ℕ) (x : Field) → (own n (Owner.Message m) d x && counts n x) ≡ true → (lo ≤ d) × (d < lo + 8) =
+      (λ d x t.
+      let mine = and-eq-true-iff (own n (Owner.Message m) d x) (counts n x) .0 t .0 in
+      let cell = and-eq-true-iff _ _ .0 mine .0 in
+      let bounds = and-eq-true-iff _ _ .0 cell in
+      (leb-true lo d (bounds .0), omega (arith, ltb-true d _ (bounds .1)))) in
+      rw length-map (omega (arith, chosen-few (λ d x. own n (Owner.Message m) d x && counts n x) lo 8 inside 0 (n .fields)))
+
   -- a value on which they agree is in each range in which they all are
-  agreed-in-range : (w : ℕ) (v : ℤ) → isWidth w ≡ true → ((x : Field) → inRange (isSigned g) w (valueIn n g x) ≡ true)
+  whole-in-range : (w : ℕ) (v : ℤ) → isWidth w ≡ true → ((x : Field) → inRange (isSigned g) w (valueIn n g x) ≡ true)
       → agreed (g .agreement) (instances n m g) ≡ Value v → inRange (isSigned g) w v ≡ true
   unfolding inRange
-  agreed-in-range w v i h e =
+  whole-in-range w v i h e =
       let lo = least (isSigned g) w in
       let hi = greatest (isSigned g) w in
       let each = all-instances (between lo hi) (λ x. and-eq-true-iff (isWidth w) (between lo hi (valueIn n g x)) .0 (h x) .1) in
       and-eq-true-iff (isWidth w) (between lo hi v) .1 (i, agreed-between lo hi (g .agreement) (instances n m g) v each e)
 
-  pub agreed-in-message : (v : ℤ) → isWidth (g .width) ≡ true → agreed (g .agreement) (instances n m g) ≡ Value v
-      → inRange (isSigned g) (g .width) v ≡ true
-  unfolding valueIn
-  agreed-in-message v i = agreed-in-range (g .width) v i (λ x. value-there _ _ _ _ _ (isSigned g) i)
+  -- and one on which floats agree is a pattern of 32 bits
+  floats-in-range : (v : ℤ) → ((x : Field) → inRange false 32 (valueIn n g x) ≡ true) → floatsAgreed (g .agreement) (instances n m g) ≡ Value v
+      → inRange false 32 v ≡ true
+  floats-in-range v h =
+      floats-pass (inRange false 32) (λ x b a. pattern-in-range x b) (g .agreement) (instances n m g) v
+      (all-left (inRange false 32) (instances n m g) (all-instances (inRange false 32) h))
 
-  -- of any node, sound or not, the agreed value has room in the memory
-  pub agreed-in-memory : (v : ℤ) → agreed (g .agreement) (instances n m g) ≡ Value v → inRange (isSigned g) 32 v ≡ true
-  unfolding valueIn isWidth
-  agreed-in-memory v = agreed-in-range 32 v refl (λ x. value-in-memory _ _ _ _ _ (isSigned g))
+  -- of any node, sound or not, each instance has room in the memory, and so has the agreed value
+  instance-in-memory : (x : Field) → inRange (isSigned g) 32 (valueIn n g x) ≡ true
+  unfolding valueIn
+  instance-in-memory x = value-in-memory _ _ _ _ _ (isSigned g)
+
+  pub agreed-in-memory : (v : ℤ) → agreedBy g (instances n m g) ≡ Value v → inRange (isSigned g) 32 v ≡ true
+  unfolding agreedBy isWidth
+  agreed-in-memory v = go (isFloat g) refl
+    where
+      go : (float : Bool) → isFloat g ≡ float
+          → cond float (floatsAgreed (g .agreement) (instances n m g)) (agreed (g .agreement) (instances n m g)) ≡ Value v → inRange (isSigned g) 32 v ≡ true
+      go true f e =
+          let unsigned = float-unsigned g f in
+          rw unsigned (floats-in-range v (λ x. subst (λ (t : Bool). inRange t 32 (valueIn n g x) ≡ true) unsigned (instance-in-memory x)) e)
+      go false f e = whole-in-range 32 v refl instance-in-memory e
+
+  -- and of a message that is as its layout says, it is a value that the message can hold
+  pub agreed-in-message : (v : ℤ) → isWidth (g .width) ≡ true → (isFloat g ≡ true → g .width ≡ 32) → agreedBy g (instances n m g) ≡ Value v
+      → canHold g v ≡ true
+  unfolding agreedBy valueIn
+  agreed-in-message v i w = go (isFloat g) refl
+    where
+      go : (float : Bool) → isFloat g ≡ float
+          → cond float (floatsAgreed (g .agreement) (instances n m g)) (agreed (g .agreement) (instances n m g)) ≡ Value v → canHold g v ≡ true
+      go true f e = holds-float g v f (w f) (agreed-in-memory v (rw f e)) (agreed-finite (g .agreement) (instances n m g) v e)
+      go false f e = holds-whole g v f (whole-in-range (g .width) v i (λ x. value-there _ _ _ _ _ (isSigned g) i) e)

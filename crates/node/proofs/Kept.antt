@@ -12,14 +12,12 @@ use lib.IntN.{ℤ}
 use lib.ListN.{length, take, length-take}
 use lib.Seq.{length-paste}
 use borrow.Author.Tests.{eqb-true}
-use Rattle.packing.specs.Values.{inRange}
-use Rattle.agreement.specs.Agreement.{agreed}
 use Rattle.agreement.specs.declared.Agreed.{Agreed}
 use Rattle.agreement.specs.declared.Agreed.the-variants.{Value, NoResult}
 use Rattle.store.specs.declared.Message.{Message}
-use Rattle.store.specs.Node.{Frame, Node, isSigned, frameAt, undelivered}
+use Rattle.store.specs.Node.{Frame, Node, frameAt, undelivered}
 use Rattle.message.specs.declared.Change.{Change}
-use Rattle.message.specs.Messages.{passesNow, offered, invalidated, withStatus, filtered, agreedOn, settled}
+use Rattle.message.specs.Messages.{canHold, passesNow, offered, invalidated, withStatus, filtered, agreedBy, agreedOn, settled}
 use Rattle.node.specs.declared.Owner.{Owner}
 use Rattle.node.specs.Calls.{outcome, sendAnswer, sendOf, invalidateAnswer, invalidateOf}
 use Rattle.node.specs.Calls.{assembleAnswer, assembleOf, consumedAnswer, consumedOf, deliverAnswer, kept, deliverOf}
@@ -34,7 +32,7 @@ use Rattle.node.proofs.Instances.{agreed-in-message}
 -- ---- messages
 
 module _ {n : Node} {g : Message} (s : SoundMessage n g) where
-  offered-step : (v : ℤ) → inRange (isSigned g) (g .width) v ≡ true → MessageStep g (offered g v)
+  offered-step : (v : ℤ) → canHold g v ≡ true → MessageStep g (offered g v)
   unfolding offered
   offered-step v r =
       by-test (MessageStep g) (passesNow g v)
@@ -47,25 +45,25 @@ module _ {n : Node} {g : Message} (s : SoundMessage n g) where
   status-step : (k : ℕ) → IsStatus k → MessageStep g (withStatus g k)
   status-step k h = record { layout = refl; valid = s .valid; status = h; held = s .held; old = s .old }
 
-  filtered-step : (v : ℤ) → inRange (isSigned g) (g .width) v ≡ true → MessageStep g (filtered g v)
+  filtered-step : (v : ℤ) → canHold g v ≡ true → MessageStep g (filtered g v)
   unfolding filtered
   filtered-step v r =
       by-test (MessageStep g) (passesNow g v)
       (λ t. record { layout = refl; valid = s .valid; status = inl refl; held = r; old = r })
       (λ t. record { layout = refl; valid = s .valid; status = inr (inr (inl refl)); held = s .held; old = r })
 
-  settled-step : (none : Bool) (l : List ℤ) → ((v : ℤ) → agreed (g .agreement) l ≡ Value v → inRange (isSigned g) (g .width) v ≡ true)
+  settled-step : (none : Bool) (l : List ℤ) → ((v : ℤ) → agreedBy g l ≡ Value v → canHold g v ≡ true)
       → MessageStep g (settled g none l)
   settled-step none [] h = status-step (cond none 21 22) (by-test IsStatus none (λ t. inr (inr (inl refl))) (λ t. inr (inr (inr refl))))
-  settled-step none (v ∷ l) h = go (agreed (g .agreement) (v ∷ l)) h
+  settled-step none (v ∷ l) h = go (agreedBy g (v ∷ l)) h
     where
-      go : (a : Agreed) → ((u : ℤ) → a ≡ Value u → inRange (isSigned g) (g .width) u ≡ true) → MessageStep g (agreedOn g a)
+      go : (a : Agreed) → ((u : ℤ) → a ≡ Value u → canHold g u ≡ true) → MessageStep g (agreedOn g a)
       go NoResult k = status-step 20 (inr (inl refl))
       go (Value u) k = filtered-step u (k u refl)
 
   closed-step : (m : ℕ) → MessageStep g (closedMessage n m g)
   unfolding closedMessage
-  closed-step m = settled-step (noneCame n m) (instances n m g) (λ v. agreed-in-message n m g v (s .width))
+  closed-step m = settled-step (noneCame n m) (instances n m g) (λ v. agreed-in-message n m g v (s .width) (s .float-width))
 
 -- ---- frames
 

@@ -5,7 +5,7 @@
 use mathlib.Core.Path.{_≡_, refl, ap}
 use mathlib.Core.Bool.{Bool, true, false, cond}
 use mathlib.Core.List.{List, [], _∷_, _++_}
-use Prim.Native.Nat.{ℕ, zero, suc, _+_, _<_, _≤_}
+use Prim.Native.Nat.{ℕ, zero, suc, _+_, _-_, _<_, _≤_, max}
 use native.Mathlib.Decide.{ℕ-discrete}
 use native.Mathlib.Nat.{add-zero}
 use native.Mathlib.Omega.{arith}
@@ -108,3 +108,15 @@ module _ {A : Type 0} (p : ℕ → A → Bool) (d : A) where
   pub chosen-split : (l : List A) (j : ℕ) → j < length l → p j (getD l j d) ≡ true
       → chosen p 0 l ≡ chosen p 0 (take j l) ++ getD l j d ∷ chosen p (suc j) (drop (suc j) l)
   chosen-split l j h t = let number : 0 + j ≡ j = omega arith in rw number at (chosen-split-from 0 l j h (rw number t))
+
+-- of elements that all stand in a stretch of n places, no more than n are chosen
+pub chosen-few : {A : Type 0} (p : ℕ → A → Bool) (lo n : ℕ) → ((j : ℕ) (x : A) → p j x ≡ true → (lo ≤ j) × (j < lo + n)) → (i : ℕ) (l : List A)
+    → length (chosen p i l) ≤ lo + n - max lo i
+unfolding chosen
+chosen-few p lo n inside i [] = omega arith
+chosen-few {A} p lo n inside i (x ∷ l) = go (p i x) refl (chosen-few p lo n inside (suc i) l)
+  where
+    go : (t : Bool) → p i x ≡ t → length (chosen p (suc i) l) ≤ lo + n - max lo (suc i)
+        → length (cond t (x ∷ chosen p (suc i) l) (chosen p (suc i) l)) ≤ lo + n - max lo i
+    go true e h = omega (arith, inside i x e)
+    go false e h = omega arith

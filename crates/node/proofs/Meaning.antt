@@ -18,6 +18,7 @@ use Rattle.packing.proofs.Field.{there-and-back}
 use Rattle.store.specs.declared.Field.{Field}
 use Rattle.store.specs.Node.{Node, messageCount, isSigned, isSent, isValid, isBig, frameAt, messageAt, fieldAt, noField}
 use Rattle.message.specs.Fields.{statusPlaces, writes}
+use Rattle.message.proofs.Held.{held-in-range}
 use Rattle.node.specs.declared.Owner.{Owner}
 use Rattle.node.specs.Own.{chosen, own, fieldsOf}
 use Rattle.node.specs.Calls.{assembleAnswer, written, assembled, receiveAnswer}
@@ -177,7 +178,7 @@ module _ {n : Node} (s : Sound n) (f : ℕ) (b : List ℕ) where
     held-stands =
         let field = s .fields d in-count in
         rw (stands (messagePlaces n (fieldAt n d)) (λ e h t. let a = later-apart e h t in (a .bits-bits, a .bits-status)))
-        (put-held field earlier earlier-length (s .messages (fieldAt n d .message) (field .message) .held))
+        (put-held field earlier earlier-length (held-in-range _ _ (s .messages (fieldAt n d .message) (field .message) .held)))
 
     -- and its validity, where it has a status bit
     pub status-stands : fieldAt n d .status ≡ 1

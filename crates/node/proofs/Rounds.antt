@@ -12,7 +12,6 @@ use lib.IntN.{ℤ}
 use lib.ListN.{length, getD, drop}
 use borrow.Author.Tests.{ltb-true, lt-ltb}
 use Rattle.whole.specs.Whole.{allOf}
-use Rattle.agreement.specs.Agreement.{agreed}
 use Rattle.agreement.specs.declared.Agreed.{Agreed}
 use Rattle.agreement.specs.declared.Agreed.the-variants.{Value, NoResult}
 use Rattle.store.specs.declared.Message.{Message}
@@ -38,7 +37,7 @@ use Rattle.store.specs.Node.{
   withFrame,
   withMessage,
 }
-use Rattle.message.specs.Messages.{passesNow, withStatus, filtered, agreedOn, settled}
+use Rattle.message.specs.Messages.{passesNow, withStatus, filtered, agreedBy, agreedOn, settled}
 use Rattle.node.specs.declared.Owner.{Owner}
 use Rattle.node.specs.Own.{chosen, firstCell, endCell, belongs, own}
 use Rattle.node.specs.Closing.{came, statusSet, counts, valueIn, instances, noneCame, closedMessage, isReceived, closeMessages, forget}
@@ -123,11 +122,11 @@ module _ (n : Node) (m : ℕ) (g : Message) where
   unfolding closedMessage
   closed-none e = rw e refl
 
-  pub closed-some : 0 < length (instances n m g) → closedMessage n m g ≡ agreedOn g (agreed (g .agreement) (instances n m g))
+  pub closed-some : 0 < length (instances n m g) → closedMessage n m g ≡ agreedOn g (agreedBy g (instances n m g))
   unfolding closedMessage
   closed-some h = go (instances n m g) h
     where
-      go : (l : List ℤ) → 0 < length l → settled g (noneCame n m) l ≡ agreedOn g (agreed (g .agreement) l)
+      go : (l : List ℤ) → 0 < length l → settled g (noneCame n m) l ≡ agreedOn g (agreedBy g l)
       go [] h = absurd (omega arith)
       go (v ∷ l) h = refl
 
@@ -136,7 +135,7 @@ module _ (n : Node) (m : ℕ) (g : Message) where
   unfolding closedMessage filtered
   closed-stored s = settle (instances n m g) refl
     where
-      agree : (a : Agreed) → agreed (g .agreement) (instances n m g) ≡ a → Stored (agreedOn g a)
+      agree : (a : Agreed) → agreedBy g (instances n m g) ≡ a → Stored (agreedOn g a)
       agree NoResult e = record { held = s .held; old = s .old }
       agree (Value v) e =
           let room = agreed-in-memory n m g v e in
@@ -144,7 +143,7 @@ module _ (n : Node) (m : ℕ) (g : Message) where
 
       settle : (l : List ℤ) → instances n m g ≡ l → Stored (settled g (noneCame n m) l)
       settle [] e = record { held = s .held; old = s .old }
-      settle (v ∷ l) e = agree (agreed (g .agreement) (v ∷ l)) (ap (agreed (g .agreement)) e)
+      settle (v ∷ l) e = agree (agreedBy g (v ∷ l)) (ap (agreedBy g) e)
 
   -- a closing of message m reads of the messages only m, for its cells
   module _ (l : List Message) (same : getD l m noMessage ≡ messageAt n m) where

@@ -42,6 +42,7 @@ use Rattle.store.specs.Start.{
   startOf,
 }
 use Rattle.message.specs.Fields.{statusPlaces}
+use Rattle.message.proofs.Held.{word-held}
 use Rattle.node.specs.Load.{loaded, loadOf}
 use Rattle.node.specs.Sound.{SoundFrame, SoundMessage, SoundField, Apart, Sound, messagePlaces, itsStatusPlaces}
 use Rattle.node.proofs.Stretches.{tally-from, Stretch, stretch}
@@ -164,18 +165,23 @@ module _ (s : List ℕ) (F M D : ℕ) where
       sound-message =
           let r = w .messages m l in
           let its-first = w .fields (first m) first-below in
-          let held = extended-held _ _ _ (r .initial .fits) in
+          let finite = r .initial .finite in
+          let held = word-held (messageCell m) _ (extended-held _ _ _ (r .initial .fits)) (λ float. finite (eqb-true _ _ float)) in
           record {
             width = simp meanings (r .width-from, r .width-to);
             sign = r .sign;
+            float-width = λ float. r .float-width (eqb-true _ _ float);
             direction = r .direction;
             agreement = r .agreement;
             sent-agreement = λ sent. r .sent-agreement (eqb-true _ _ sent);
             filter = r .filter;
+            float-filter = λ float. r .float-filter (eqb-true _ _ float);
             statusbit = its-first .status;
             heard = λ sent. rw first-names at (its-first .heard) (eqb-true _ _ sent);
             x1 = r .x1 .fits;
             x2 = r .x2 .fits;
+            finite-x1 = λ float. r .x1 .finite (eqb-true _ _ float);
+            finite-x2 = λ float. r .x2 .finite (eqb-true _ _ float);
             unused-x1 = r .x1 .unused;
             unused-x2 = r .x2 .unused;
             valid = at-most-one (eqb (field (first m) .status) 0);

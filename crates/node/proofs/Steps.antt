@@ -9,18 +9,18 @@ use mathlib.Core.Logic.{inl, inr}
 use Prim.Native.Nat.{ℕ, _+_, _<_, _≤_}
 use native.Mathlib.Omega.{arith}
 use lib.ListN.{length, getD, set}
-use Rattle.packing.specs.Values.{inRange}
 use Rattle.store.specs.declared.Stage.{Stage}
 use Rattle.store.specs.declared.Stage.the-variants.{Waiting, Loaded, Gone}
 use Rattle.store.specs.declared.Message.{Message}
 use Rattle.store.specs.declared.Field.{Field}
-use Rattle.store.specs.Node.{Frame, Node, isSigned, noFrame, noMessage, noField, frameAt, messageAt, fieldAt}
+use Rattle.store.specs.Node.{Frame, Node, noFrame, noMessage, noField, frameAt, messageAt, fieldAt}
 use Rattle.store.specs.Node.{marked, withFrames, withMessages, withFields}
 use Rattle.message.specs.declared.Change.{Change}
 use Rattle.message.specs.Messages.{withState}
 use Rattle.message.specs.Fields.{staged, stageAfter, statusPlaces}
 use Rattle.node.specs.declared.Owner.{Owner}
 use Rattle.node.specs.Own.{changed, own}
+use Rattle.message.specs.Messages.{canHold}
 use Rattle.node.specs.Sound.{SoundFrame, SoundMessage, SoundField, Apart, Sound, IsStatus, IsStage, messagePlaces, itsStatusPlaces}
 use Rattle.node.proofs.Lists.{Step, one-replaced, some-replaced}
 
@@ -35,8 +35,8 @@ pub record MessageStep (g after : Message) : Type 0 where
   pub layout : after ≡ withState g (after .valid) (after .status) (after .held) (after .old)
   pub valid : after .valid ≤ 1
   pub status : IsStatus (after .status)
-  pub held : inRange (isSigned g) (g .width) (after .held) ≡ true
-  pub old : inRange (isSigned g) (g .width) (after .old) ≡ true
+  pub held : canHold g (after .held) ≡ true
+  pub old : canHold g (after .old) ≡ true
 
 pub record FieldStep (x after : Field) : Type 0 where
   pub layout : after ≡ staged (after .stage) x
@@ -75,6 +75,7 @@ module _ {n : Node} (s : Sound n) {F : List Frame} {M : List Message} {D : List 
       }
 
   message-after : (m : ℕ) → m < n .message-number → SoundMessage (withCells n F M D) (getD M m noMessage)
+  unfolding canHold
   message-after m l =
       let before = s .messages m l in
       let step = messages .each m l in
@@ -82,14 +83,18 @@ module _ {n : Node} (s : Sound n) {F : List Frame} {M : List Message} {D : List 
       (record {
         width = before .width;
         sign = before .sign;
+        float-width = before .float-width;
         direction = before .direction;
         agreement = before .agreement;
         sent-agreement = before .sent-agreement;
         filter = before .filter;
+        float-filter = before .float-filter;
         statusbit = before .statusbit;
         heard = before .heard;
         x1 = before .x1;
         x2 = before .x2;
+        finite-x1 = before .finite-x1;
+        finite-x2 = before .finite-x2;
         unused-x1 = before .unused-x1;
         unused-x2 = before .unused-x2;
         valid = step .valid;

@@ -7,12 +7,11 @@ use lib.Dec.{eqb, ltb}
 use lib.IntN.{ℤ}
 use lib.ListN.{length, take}
 use Rattle.whole.specs.Whole.{allOf}
-use Rattle.packing.specs.Values.{inRange}
 use Rattle.store.specs.declared.Head.{Head}
 use Rattle.store.specs.declared.Field.{Field}
-use Rattle.store.specs.Node.{Frame, Node, frameCount, messageCount, isSigned, isSent, isValid, hasStatusBit, isSentFrame, isEvent, nodeOf, frameAt, messageAt, marked, filled, withFields, withMessage, withFrame}
+use Rattle.store.specs.Node.{Frame, Node, frameCount, messageCount, isSent, isValid, hasStatusBit, isSentFrame, isEvent, nodeOf, frameAt, messageAt, marked, filled, withFields, withMessage, withFrame}
 use Rattle.message.specs.declared.Change.{Change}
-use Rattle.message.specs.Messages.{offered, invalidated}
+use Rattle.message.specs.Messages.{canHold, offered, invalidated}
 use Rattle.message.specs.Fields.{staged, stageAfter, goneField, writes}
 use Rattle.node.specs.declared.Owner.{Owner}
 use Rattle.node.specs.Own.{changed, own, fieldsOf}
@@ -38,7 +37,7 @@ unfoldable pub sendAnswer : Node → ℕ → ℤ → ℕ
 sendAnswer n m v =
     cond (not (ltb m (messageCount n))) 16
     (cond (not (isSent (messageAt n m))) 17
-    (cond (not (inRange (isSigned (messageAt n m)) (messageAt n m .width) v)) 18 0))
+    (cond (not (canHold (messageAt n m) v)) 18 0))
 
 -- the fields of a message or a frame move on by a change
 abbrev pub moved : Change → Owner → Node → Node

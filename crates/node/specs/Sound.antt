@@ -7,13 +7,15 @@ use mathlib.Core.Logic.{_⊎_}
 use Prim.Native.Nat.{ℕ, _+_, _<_, _≤_}
 use lib.ListN.{length}
 use Rattle.packing.specs.Places.{inFrame, placesIn, Disjoint}
-use Rattle.packing.specs.Values.{isWidth, inRange, extended}
-use Rattle.record.specs.Ranges.{usesX1, usesX2}
+use Rattle.packing.specs.Values.{isWidth, extended}
+use Rattle.float.specs.Patterns.{aside}
+use Rattle.record.specs.Ranges.{usesX1, usesX2, isMask}
 use Rattle.store.specs.declared.Stage.{Stage}
 use Rattle.store.specs.declared.Stage.the-variants.{Waiting, Loaded, Gone}
 use Rattle.store.specs.declared.Message.{Message}
 use Rattle.store.specs.declared.Field.{Field}
-use Rattle.store.specs.Node.{Frame, Node, isSigned, isSent, isBig, frameAt, messageAt, fieldAt}
+use Rattle.store.specs.Node.{Frame, Node, isSigned, isFloat, isSent, isBig, frameAt, messageAt, fieldAt}
+use Rattle.message.specs.Messages.{canHold}
 use Rattle.message.specs.Fields.{statusPlaces}
 
 -- a frame is as its layout says, and has 32 bytes of memory
@@ -30,24 +32,28 @@ pub record SoundFrame (h : Frame) : Type 0 where
 abbrev pub IsStatus : ℕ → Type 0
 IsStatus k = (k ≡ 0) ⊎ ((k ≡ 20) ⊎ ((k ≡ 21) ⊎ (k ≡ 22)))
 
--- a message is as its layout says, holds values in its range, and has its fields in one run
+-- a message is as its layout says, holds values that it can hold, and has its fields in one run
 pub record SoundMessage (n : Node) (g : Message) : Type 0 where
   pub width : isWidth (g .width) ≡ true
-  pub sign : g .sign ≤ 1
+  pub sign : g .sign ≤ 2
+  pub float-width : isFloat g ≡ true → g .width ≡ 32
   pub direction : g .direction ≤ 1
   pub agreement : g .agreement ≤ 2
   pub sent-agreement : isSent g ≡ true → g .agreement ≡ 0
   pub filter : g .filter ≤ 13
+  pub float-filter : isFloat g ≡ true → isMask (g .filter) ≡ false
   pub statusbit : g .statusbit ≤ 1
   pub heard : isSent g ≡ true → g .statusbit ≡ 0 → g .filter ≡ 0
   pub x1 : extended (isSigned g) (g .width) (g .x1) ≡ true
   pub x2 : extended (isSigned g) (g .width) (g .x2) ≡ true
+  pub finite-x1 : isFloat g ≡ true → aside (g .x1) ≡ false
+  pub finite-x2 : isFloat g ≡ true → aside (g .x2) ≡ false
   pub unused-x1 : usesX1 (g .filter) ≡ false → g .x1 ≡ 0
   pub unused-x2 : usesX2 (g .filter) ≡ false → g .x2 ≡ 0
   pub valid : g .valid ≤ 1
   pub status : IsStatus (g .status)
-  pub held : inRange (isSigned g) (g .width) (g .held) ≡ true
-  pub old : inRange (isSigned g) (g .width) (g .old) ≡ true
+  pub held : canHold g (g .held) ≡ true
+  pub old : canHold g (g .old) ≡ true
   pub some-field : 1 ≤ g .fields
   pub few-fields : g .fields ≤ 8
   pub in-count : g .first + g .fields ≤ n .field-number

@@ -129,7 +129,7 @@ fn send_answer(node: &[u8], message: u64, value: i64) -> u8
     if !(g.direction == 1) {
         return 17;
     }
-    if !packing::in_range(value, g.width, g.sign == 1) {
+    if !message::can_hold(g, value) {
         return 18;
     }
     0
@@ -473,7 +473,8 @@ fn value_in(node: &[u8], g: Message, x: Field) -> i64
 {
     let f = x.frame as usize;
     let h = store::head_at(node, f);
-    let pattern = packing::unpack(store::data_at(node, f), h.order == 1, x.start, g.width);
+    let n = store::data_length(h);
+    let pattern = packing::unpack_in(store::room_at(node, f), n, h.order == 1, x.start, g.width);
     packing::value_of(pattern, g.width, g.sign == 1)
 }
 
@@ -532,7 +533,7 @@ fn closed_message(node: &[u8], message: u8, g: Message) -> Message
         }
         return message::with_status(g, 22);
     }
-    message::agreed_message(g, agreement::agree(g.agreement, &values[..n]))
+    message::agreed_message(g, message::agree_by(g, &values[..n]))
 }
 
 fn close_messages(node: &mut [u8])

@@ -8,14 +8,13 @@ use lib.Dec.{eqb, ltb, leb}
 use lib.IntN.{ℤ}
 use lib.ListN.{length, set, List·getD-map}
 use lib.Seq.{map-set-same}
-use Rattle.agreement.specs.Agreement.{agreed}
 use Rattle.agreement.specs.declared.Agreed.{Agreed}
 use Rattle.agreement.specs.declared.Agreed.the-variants.{Value, NoResult}
 use Rattle.store.specs.declared.Message.{Message}
 use Rattle.store.specs.declared.Field.{Field}
 use Rattle.store.specs.Node.{Frame, Node, countsOf, fieldCount, noFrame, noMessage, noField, frameAt, messageAt, fieldAt, withFrames, withMessages}
 use Rattle.message.specs.declared.Change.{Change}
-use Rattle.message.specs.Messages.{passesNow, offered, filtered, agreedOn, settled}
+use Rattle.message.specs.Messages.{passesNow, offered, filtered, agreedBy, agreedOn, settled}
 use Rattle.message.specs.Fields.{staged, stageAfter}
 use Rattle.node.specs.declared.Owner.{Owner}
 use Rattle.node.specs.Own.{changed, belongs, own}
@@ -103,7 +102,7 @@ agreed-bare g (Value v) = filtered-bare g v
 
 settled-bare : (g : Message) (none : Bool) (l : List ℤ) → bareMessage (settled g none l) ≡ bareMessage g
 settled-bare g none [] = refl
-settled-bare g none (v ∷ l) = agreed-bare g (agreed (g .agreement) (v ∷ l))
+settled-bare g none (v ∷ l) = agreed-bare g (agreedBy g (v ∷ l))
 
 closed-bare : (n : Node) (m : ℕ) (g : Message) → bareMessage (closedMessage n m g) ≡ bareMessage g
 unfolding closedMessage

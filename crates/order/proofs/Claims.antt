@@ -7,6 +7,7 @@ use Rattle.order.proofs.OwnBits.{own-bits, own-values}
 use Rattle.order.proofs.EachRound.{each-round, forgotten}
 use Rattle.order.proofs.FlagHistory.{flag-history}
 use Rattle.order.proofs.ThereAndBack.{sent-received, invalid-received}
+use Rattle.order.proofs.Floats.{floats-agree, all-aside, mean-shown}
 use Rattle.order.proofs.Refusals.{refusal, load-refusal, load-tells}
 
 pub claims : Claims
@@ -23,6 +24,9 @@ claims =
           sent-received sender receiver mirror f m carried b fresh p v sent passes ok;
       cleared-received = λ s r sender receiver mirror f m carried fresh cleared b ok p.
           invalid-received sender receiver mirror f m carried b fresh p ok cleared;
+      floats-agree = floats-agree;
+      all-aside = λ n s m l received float counting none p. all-aside s m l received float p counting none;
+      mean-shown = λ n s m l received float average through v k e p. mean-shown s m l received float p average through v k e;
       refusal = refusal;
       load-refusal = load-refusal;
       load-tells = load-tells;

@@ -10,7 +10,7 @@ use Rattle.packing.specs.Places.{bitOf, withBit, putBit, placeOf, frameBit, bit
 use Rattle.packing.specs.Values.{isWidth, least, greatest, inRange, patternOf}
 use Rattle.filter.specs.Filter.{rules, passes}
 use Rattle.store.specs.Node.{Node}
-use Rattle.message.specs.Messages.{passesNow, offered}
+use Rattle.message.specs.Messages.{canHold, passesNow, offered}
 use Rattle.message.specs.Fields.{statusPlaces, writes}
 use Rattle.node.specs.Own.{chosen, changed, belongs, own}
 use Rattle.node.specs.Calls.{sendAnswer, sendOf, suppressed, assembleAnswer, written, assembleOf, assembled}
@@ -66,7 +66,7 @@ unfolding someOf chosen own belongs
 stays = refl
 
 pub sent-first : seenOf (next small (sends0 .call)) (assembles0 .call) ≡ record { answer = 0; lent = buffer (5 ∷ []) }
-unfolding chosen changed own belongs sendOf sendAnswer inRange isWidth least greatest offered passesNow passes rules assembleOf assembleAnswer suppressed assembled written writes statusPlaces placesIn inFrame places bitPlaces frameBit placeOf packed putBit withBit bitOf patternOf allOf
+unfolding chosen changed own belongs sendOf sendAnswer canHold inRange isWidth least greatest offered passesNow passes rules assembleOf assembleAnswer suppressed assembled written writes statusPlaces placesIn inFrame places bitPlaces frameBit placeOf packed putBit withBit bitOf patternOf allOf
 sent-first = refl
 
 pub assembled-first : seenOf small (assembles0 .call) ≡ record { answer = 0; lent = buffer (0 ∷ []) }

@@ -6,7 +6,7 @@
 use mathlib.Core.Path.{_≡_, refl, sym, ap, _∙_}
 use mathlib.Core.Bool.{Bool, true, false, not, cond, _&&_, true≢false}
 use mathlib.Core.List.{List, [], _∷_, map}
-use Prim.Native.Nat.{ℕ, _<_}
+use Prim.Native.Nat.{ℕ, _<_, _≤_}
 use native.Mathlib.Decide.{ℕ-discrete}
 use native.Mathlib.Omega.{arith}
 use lib.Dec.{eqb}
@@ -14,18 +14,20 @@ use lib.IntN.{ℤ}
 use lib.ListN.{length}
 use borrow.Author.Tests.{lt-ltb, eqb-true, eq-eqb, not-true, not-false}
 use Rattle.filter.specs.Filter.{rules, passes}
-use Rattle.agreement.specs.Agreement.{agreed}
+use Rattle.agreement.proofs.Passed.{isFinite}
 use Rattle.record.proofs.Tests.{and-holds}
 use Rattle.store.specs.declared.Message.{Message}
 use Rattle.store.specs.declared.Field.{Field}
-use Rattle.store.specs.Node.{Node, messageCount, isSent, noField, frameAt, messageAt, fieldAt}
-use Rattle.message.specs.Messages.{withState, passesNow, withStatus, filtered, settled}
+use Rattle.store.specs.Node.{Node, messageCount, isSent, isFloat, noField, frameAt, messageAt, fieldAt}
+use Rattle.message.specs.Messages.{withState, passesNow, withStatus, filtered, agreedOn, settled}
+use Rattle.message.proofs.Held.{held-finite, picked}
 use Rattle.message.specs.Fields.{statusPlaces}
 use Rattle.node.specs.declared.Owner.{Owner}
 use Rattle.node.specs.Own.{chosen, own}
 use Rattle.node.specs.Calls.{assembleAnswer, assembleOf, assembled, receiveAnswer, receivedPlace}
 use Rattle.node.specs.Closing.{came, statusSet, counts, valueIn, instances, noneCame, closedMessage, isReceived, closeMessages, forget, closeOf}
 use Rattle.node.specs.Sound.{Sound}
+use Rattle.node.proofs.Instances.{instances-few}
 use Rattle.node.proofs.Answers.{assemble-access}
 use Rattle.node.proofs.Closed.{message-closed}
 use Rattle.node.proofs.Delivered.{data-length}
@@ -87,14 +89,13 @@ module _ {s r : Node} (sender : Sound s) (receiver : Sound r) (mirror : Mirrors 
 
 -- ---- one message, at a closing
 
--- instances that all carry v: picking any of them gives v
+-- instances that all carry v, which the message can hold: picking any of them gives v
 settled-same : (g : Message) (none : Bool) (f : Field → ℤ) (v : ℤ) (l : List Field) → g .agreement ≡ 0 → Every (λ x. f x ≡ v) l → (l ≡ [] → ⊥)
-    → settled g none (map f l) ≡ filtered g v
-unfolding agreed
-settled-same g none f v [] pick same some = absurd (some refl)
-settled-same g none f v (x ∷ l) pick same some = rw (pick, same .0) refl
+    → length (map f l) ≤ 8 → (isFloat g ≡ true → isFinite v ≡ true) → settled g none (map f l) ≡ filtered g v
+settled-same g none f v [] pick same some few finite = absurd (some refl)
+settled-same g none f v (x ∷ l) pick same some few finite = rw (same .0) (ap (agreedOn g) (picked g v (map f l) pick few finite))
 
-filtered-true : (g : Message) (v : ℤ) → g .filter ≡ 0 → filtered g v ≡ withState g (g .valid) 0 v v
+pub filtered-true : (g : Message) (v : ℤ) → g .filter ≡ 0 → filtered g v ≡ withState g (g .valid) 0 v v
 unfolding filtered passesNow passes rules
 filtered-true g v e = rw e refl
 
@@ -105,7 +106,7 @@ unfolding receiveAnswer receivedPlace
 shown n m p g known e received = rw (e, lt-ltb m (messageCount n) known, received) refl
 
 -- and after a closing that makes it g
-closed-shown : {n : Node} → Sound n → (m : ℕ) (p : ℤ) (g : Message) → m < n .message-number → isSent (messageAt n m) ≡ false → isSent g ≡ false
+pub closed-shown : {n : Node} → Sound n → (m : ℕ) (p : ℤ) (g : Message) → m < n .message-number → isSent (messageAt n m) ≡ false → isSent g ≡ false
     → closedMessage n m (messageAt n m) ≡ g
     → seenOf (next n close) (receive m p) ≡ record { answer = g .status; lent = value (cond (eqb (g .status) 0) (g .held) p) }
 unfolding closeOf forget closeMessages isReceived
@@ -176,6 +177,8 @@ module _ {s r : Node} (sender : Sound s) (receiver : Sound r) (mirror : Mirrors 
         (settled-same g (noneCame r m) (valueIn r g) v (chosen counting 0 (r .fields)) (layout .agreement)
         (chosen-each counting noField (λ x. valueIn r g x ≡ v) 0 (r .fields) (λ e from k t. counted e t .0))
         (chosen-some counting noField (r .fields) d room (rw (mine, here) (its-status d mine here ∙ valid)))
+        (instances-few r m g)
+        (λ float. held-finite (messageAt s m) v (rw (layout .sign) at float) (sender .messages m (known d mine) .held))
         ∙ filtered-true g v (layout .filter))
 
     -- as invalid: no instance counts

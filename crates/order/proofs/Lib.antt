@@ -7,6 +7,7 @@ pub mod Claims
 pub mod EachRound
 pub mod Example
 pub mod FlagHistory
+pub mod Floats
 pub mod Footprints
 pub mod FromSender
 pub mod Memories

@@ -12,7 +12,7 @@ use Rattle.packing.specs.Values.{isWidth, least, greatest, inRange, extend, ext
 use Rattle.filter.specs.Filter.{rules, passes}
 use Rattle.record.specs.Numbers.{tally, anyBelow, leastBelow}
 use Rattle.record.specs.Records.{byteAt, wordAt, isFrame, isMessage, isField, frameAt, messageAt, fieldAt, pairBelow}
-use Rattle.record.specs.Ranges.{wrongIf, wordFinding, frameFinding, messageFinding, fieldFinding, findingOf, findingAt, wrongAt, lowestFault, rangeFault}
+use Rattle.record.specs.Ranges.{wrongIf, wordFits, wordFinding, frameFinding, messageFinding, fieldFinding, findingOf, findingAt, wrongAt, lowestFault, rangeFault}
 use Rattle.record.specs.Runs.{pastEnd, meet, clash}
 use Rattle.layout.specs.Counts.{countsBefore}
 use Rattle.layout.specs.Verdict.{
@@ -36,7 +36,7 @@ use Rattle.layout.specs.declared.Verdict.{Verdict}
 use Rattle.layout.proofs.Examples.{filled}
 use Rattle.store.specs.Node.{Node}
 use Rattle.store.specs.Start.{table, startHead, startField, startMessage, startMessageOrNone, startFrames, startMessages, startFields, startOf}
-use Rattle.message.specs.Messages.{passesNow, offered}
+use Rattle.message.specs.Messages.{canHold, passesNow, offered}
 use Rattle.node.specs.Own.{chosen, changed, belongs, own}
 use Rattle.node.specs.Calls.{sendAnswer, sendOf, suppressed, assembleAnswer, assembleOf, assembled}
 use Rattle.node.specs.Closing.{came, noneCame}
@@ -58,7 +58,7 @@ unfolding
     extended isWidth extend
     tally anyBelow leastBelow
     byteAt wordAt isFrame isMessage isField frameAt messageAt fieldAt countsBefore
-    wrongIf wordFinding frameFinding messageFinding fieldFinding findingOf findingAt wrongAt lowestFault rangeFault
+    wrongIf wordFits wordFinding frameFinding messageFinding fieldFinding findingOf findingAt wrongAt lowestFault rangeFault
     sizeFault pairBelow orderFault refFault isFieldOf unlike groupFault
     pastEnd meet clash clashAt placeFault fails noField complete failsAt refusalAt judged verdict
 accepted = (refl, refl)
@@ -108,7 +108,7 @@ pub played : (p : ℤ)
 unfolding
     node file filled tally anyBelow leastBelow byteAt wordAt frameAt messageAt fieldAt
     startOf startFrames startMessages startFields table startHead startMessageOrNone startMessage startField
-    chosen changed own belongs someOf allOf sendOf sendAnswer inRange isWidth least greatest offered passesNow passes rules
+    chosen changed own belongs someOf allOf sendOf sendAnswer canHold inRange isWidth least greatest offered passesNow passes rules
     assembleOf assembleAnswer suppressed noneCame came
 played p =
     let sender = sound 1 (accepted .1) in

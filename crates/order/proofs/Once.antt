@@ -3,6 +3,11 @@
 use mathlib.Core.Path.{_≡_, ap, ap₂, sym, _∙_}
 use mathlib.Core.List.{List}
 use Prim.Native.Nat.{ℕ}
+use lib.Dec.{T}
+use lib.Ieee.{Float, binary32, fits, ofBits}
+use lib.Ieee.Bits.{ofBits-toBits}
+use Rattle.float.specs.Running.{Running, runningOf}
+use Rattle.float.specs.declared.FloatSum.{FloatSum}
 use Rattle.store.specs.Node.{Node, nodeOf}
 use Rattle.node.specs.Calls.{Outcome, left}
 use Rattle.node.specs.Load.{loadOf}
@@ -15,6 +20,15 @@ one o a b p q = p ∙ sym q
 
 one-memory : (n : Node) → Single (λ (e : List ℕ). Memory e × (nodeOf e ≡ n))
 one-memory n a b p q = by-node a b (p .0) (q .0) (p .1 ∙ sym (q .1))
+
+-- a value of type f32 is that of its pattern
+one-sum : (o : Running) → Single (λ (r : FloatSum). T (fits binary32 (r .sum)) × (runningOf r ≡ o))
+unfolding runningOf
+one-sum o a b p q =
+    let same = p .1 ∙ sym (q .1) in
+    ap₂ (λ (s : Float) (c : ℕ). record { sum = s; count = c })
+    (sym (ofBits-toBits binary32 (a .sum) (p .0)) ∙ ap (λ (r : Running). ofBits binary32 (r .sum)) same ∙ ofBits-toBits binary32 (b .sum) (q .0))
+    (ap (λ (r : Running). r .count) same)
 
 one-call : (b : List ℕ) (c : Call) → Single (λ (o : Ended). Memory (o .memory) × Does b c (o .seen) (o .memory))
 one-call b c x y p q =
@@ -34,12 +48,19 @@ once =
     record {
       pack = λ frame big start width pattern. one _;
       unpack = λ frame big start width. one _;
+      unpack-in = λ room n big start width. one _;
       in-range = λ value width signed. one _;
       value-of = λ pattern width signed. one _;
       pattern-of = λ value. one _;
       is-extended = λ pattern width signed. one _;
+      is-aside = λ x. one _;
+      no-sum = one-sum _;
+      add = λ s x. one-sum _;
+      divide = λ s. one _;
+      rank-of = λ x. one _;
       agree = λ agreement instances. one _;
-      pass = λ filter signed x1 x2 new old. one _;
+      agree-floats = λ agreement instances. one _;
+      pass = λ filter sign x1 x2 new old. one _;
       byte-at = λ file i k. one _;
       frame-record = λ file i. one _;
       message-record = λ file i. one _;
@@ -59,6 +80,8 @@ once =
       counts = λ b. one _;
       head-at = λ b f. one _;
       data-at = λ b f. one _;
+      room-at = λ b f. one _;
+      data-length = λ h. one _;
       message-at = λ b m. one _;
       field-at = λ b d. one _;
       put-delivered = λ b f k. one-memory _;
@@ -70,6 +93,8 @@ once =
       offered-message = λ g value. one _;
       invalidated-message = λ g. one _;
       with-status = λ g status. one _;
+      can-hold = λ g value. one _;
+      agree-by = λ g instances. one _;
       agreed-message = λ g value. one _;
       moved-field = λ change x. one _;
       stage-gone = λ stage. one _;

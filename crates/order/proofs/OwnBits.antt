@@ -13,13 +13,12 @@ use lib.ListN.{length}
 use borrow.Author.Tests.{eqb-true}
 use Rattle.whole.specs.Whole.{allOf}
 use Rattle.packing.proofs.Frame.{agree}
-use Rattle.agreement.specs.Agreement.{agreed}
 use Rattle.agreement.specs.declared.Agreed.{Agreed}
 use Rattle.agreement.specs.declared.Agreed.the-variants.{Value, NoResult}
 use Rattle.store.specs.declared.Message.{Message}
 use Rattle.store.specs.declared.Field.{Field}
 use Rattle.store.specs.Node.{Frame, Node, messageCount, noField, isSent, dataOf, frameAt, messageAt, fieldAt}
-use Rattle.message.specs.Messages.{withState, passesNow, filtered, agreedOn, settled}
+use Rattle.message.specs.Messages.{withState, passesNow, filtered, agreedBy, agreedOn, settled}
 use Rattle.message.specs.Fields.{statusPlaces}
 use Rattle.node.specs.declared.Owner.{Owner}
 use Rattle.node.specs.Own.{own}
@@ -157,8 +156,9 @@ agreed-again g (Value v) valid status = filtered-again g v valid status
 
 settled-again : (g : Message) (none : Bool) (l : List ℤ) (valid status : ℕ)
     → settled (again g valid status) none l ≡ again (settled g none l) valid (settled g none l .status)
+unfolding agreedBy
 settled-again g none [] valid status = refl
-settled-again g none (v ∷ l) valid status = agreed-again g (agreed (g .agreement) (v ∷ l)) valid status
+settled-again g none (v ∷ l) valid status = agreed-again g (agreedBy g (v ∷ l)) valid status
 
 closed-again : (n : Node) (m : ℕ) (g : Message) (valid status : ℕ)
     → closedMessage n m (again g valid status) ≡ again (closedMessage n m g) valid (closedMessage n m g .status)

@@ -6,14 +6,19 @@ use mathlib.Core.List.{List, [], _∷_}
 use mathlib.Core.Logic.{_↔_}
 use Prim.Native.Nat.{ℕ, _/_, _%_, _<_}
 use lib.IntN.{ℤ}
+use lib.ListN.{length}
+use Rattle.packing.specs.Values.{patternOf}
+use Rattle.float.specs.Rounding.{over}
+use Rattle.agreement.specs.Floats.{leftOf, sumFrom, leftAgreed}
 use Rattle.layout.specs.Numbers.{numberOf, byteOf}
 use Rattle.layout.specs.Verdict.{verdict}
 use Rattle.layout.specs.declared.Refusal.{Refusal}
 use Rattle.layout.specs.declared.Verdict.{Verdict}
-use Rattle.store.specs.Node.{Node, nodeOf, frameAt, messageAt}
-use Rattle.message.specs.Messages.{passesNow}
+use Rattle.store.specs.declared.Message.{Message}
+use Rattle.store.specs.Node.{Node, isSent, isFloat, nodeOf, frameAt, messageAt}
+use Rattle.message.specs.Messages.{passesNow, agreedBy}
 use Rattle.node.specs.Calls.{left, assembled}
-use Rattle.node.specs.Closing.{noneCame}
+use Rattle.node.specs.Closing.{instances, noneCame}
 use Rattle.node.specs.Load.{loadOf}
 use Rattle.node.specs.Sound.{Sound}
 use Rattle.order.specs.Runs.{Call, send, assemble, readFlag, deliver, close, receive}
@@ -24,6 +29,7 @@ use Rattle.order.specs.Once.{Once}
 use Rattle.order.specs.Own.{SameValues, SameOwn, SameRound}
 use Rattle.order.specs.Flag.{Sent, AllOut, shows}
 use Rattle.order.specs.Mirror.{Mirrors, goesValid}
+use Rattle.order.specs.Floats.{noneShown, meanShown}
 
 pub record Claims : Type 0 where
   -- Order of calls. From any memory, a reordering of calls that keeps the order of those which name the same message, the same frame, or a frame and a
@@ -48,7 +54,8 @@ pub record Claims : Type 0 where
       → (l : List Call) → (Sent (next n (send m v)) m l → ⊥) → (p : ℕ)
       → ((seenOf (final n (send m v ∷ l)) (readFlag m p) ≡ shows 1) ↔ AllOut (next n (send m v)) m l)
       × ((seenOf (final n (send m v ∷ l)) (readFlag m p) ≡ shows 0) ↔ (AllOut (next n (send m v)) m l → ⊥))
-  -- There and back. A value sent, passed by the filter, assembled, and delivered to a node that mirrors the sender is received as sent
+  -- There and back. A value sent, passed by the filter, assembled, and delivered to a node that mirrors the sender is received as sent; of a float that is
+  -- any finite pattern, bit for bit
   pub sent-received : (s r : Node) → Sound s → Sound r → Mirrors s r → (f m : ℕ) → carries s f m ≡ true → noneCame r m ≡ true
       → (v : ℤ) → answerOf s (send m v) ≡ 0 → passesNow (messageAt s m) v ≡ true
       → (b : List ℕ) → answerOf (next s (send m v)) (assemble f b) ≡ 0 → (p : ℤ)
@@ -57,6 +64,17 @@ pub record Claims : Type 0 where
   pub cleared-received : (s r : Node) → Sound s → Sound r → Mirrors s r → (f m : ℕ) → carries s f m ≡ true → noneCame r m ≡ true
       → goesValid (messageAt s m) ≡ false → (b : List ℕ) → answerOf s (assemble f b) ≡ 0 → (p : ℤ)
       → seenOf (final r (deliver f true (assembled s f b) ∷ close ∷ [])) (receive m p) ≡ record { answer = 22; lent = value p }
+  -- Floats. Of a float message's counting instances those that are not set aside agree, in any node: there never are more than eight
+  pub floats-agree : (n : Node) (m : ℕ) (g : Message) → isFloat g ≡ true
+      → agreedBy g (instances n m g) ≡ leftAgreed (g .agreement) (leftOf (instances n m g))
+  -- where some count and none is left, a receive answers 20
+  pub all-aside : (n : Node) → Sound n → (m : ℕ) → m < n .message-number → isSent (messageAt n m) ≡ false → isFloat (messageAt n m) ≡ true
+      → (instances n m (messageAt n m) ≡ [] → ⊥) → leftOf (instances n m (messageAt n m)) ≡ [] → (p : ℤ)
+      → seenOf (next n close) (receive m p) ≡ noneShown p
+  -- and where v is the first that is left and l are the others, their average with filter 0 shows v + l in frame order, divided by their number
+  pub mean-shown : (n : Node) → Sound n → (m : ℕ) → m < n .message-number → isSent (messageAt n m) ≡ false → isFloat (messageAt n m) ≡ true
+      → messageAt n m .agreement ≡ 1 → messageAt n m .filter ≡ 0 → (v : ℤ) (l : List ℤ) → leftOf (instances n m (messageAt n m)) ≡ v ∷ l → (p : ℤ)
+      → seenOf (next n close) (receive m p) ≡ meanShown (over (sumFrom (patternOf 32 v) l) (length (v ∷ l))) p
   -- Refusals change nothing: every answer but 0 leaves the node's memory and the caller's as they were
   pub refusal : (b : List ℕ) (c : Call) (s : Seen) (e : List ℕ) → Memory b → Memory e → Does b c s e → (s .answer ≡ 0 → ⊥)
       → (e ≡ b) × (s .lent ≡ lentBefore c)

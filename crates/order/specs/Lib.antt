@@ -5,5 +5,6 @@ pub mod Once
 pub mod Own
 pub mod Flag
 pub mod Mirror
+pub mod Floats
 pub mod Claims
 pub mod Example

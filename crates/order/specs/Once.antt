@@ -3,12 +3,19 @@
 use mathlib.Core.Path.{_≡_}
 use mathlib.Core.Bool.{Bool}
 use mathlib.Core.List.{List}
-use Prim.Native.Nat.{ℕ}
+use Prim.Native.Nat.{ℕ, min}
+use lib.Dec.{T}
+use lib.Ieee.{binary32, fits}
 use lib.IntN.{ℤ}
-use lib.ListN.{length}
+use lib.ListN.{length, take}
 use Rattle.packing.specs.Places.{placesIn, packed, unpacked}
 use Rattle.packing.specs.Values.{inRange, valueOf, patternOf, extended}
+use Rattle.float.specs.Patterns.{aside, rankOf}
+use Rattle.float.specs.Running.{none, more, finish, runningOf}
+use Rattle.float.specs.declared.FloatSum.{FloatSum}
+use Rattle.float.specs.declared.FloatMean.{FloatMean}
 use Rattle.agreement.specs.Agreement.{agreed}
+use Rattle.agreement.specs.Floats.{floatsAgreed}
 use Rattle.agreement.specs.declared.Agreed.{Agreed}
 use Rattle.filter.specs.Filter.{passes}
 use Rattle.record.specs.Records.{byteAt, frameAt as frameRecord, messageAt as messageRecord, fieldAt as fieldRecord, recordAt, pairBelow}
@@ -31,10 +38,10 @@ use Rattle.store.specs.declared.Stage.{Stage}
 use Rattle.store.specs.declared.Head.{Head}
 use Rattle.store.specs.declared.Message.{Message}
 use Rattle.store.specs.declared.Field.{Field}
-use Rattle.store.specs.Node.{nodeOf, countsOf, frameAt, messageAt, fieldAt, dataOf, marked, filled, undelivered, withFrame, withMessage, withField}
+use Rattle.store.specs.Node.{nodeOf, roomOf, countsOf, frameAt, messageAt, fieldAt, dataOf, marked, filled, undelivered, withFrame, withMessage, withField}
 use Rattle.store.specs.Start.{startOf}
 use Rattle.message.specs.declared.Change.{Change}
-use Rattle.message.specs.Messages.{offered, invalidated, withStatus, agreedOn}
+use Rattle.message.specs.Messages.{canHold, offered, invalidated, withStatus, agreedBy, agreedOn}
 use Rattle.message.specs.Fields.{staged, stageAfter, isGone, writes}
 use Rattle.node.specs.Calls.{left}
 use Rattle.node.specs.Load.{loadOf}
@@ -59,13 +66,22 @@ pub record Once : Type 0 where
   pub pack : (frame : List ℕ) (big : Bool) (start width pattern : ℕ)
       → Single (λ (after : List ℕ). after ≡ packed (placesIn (length frame) big start width) pattern frame)
   pub unpack : (frame : List ℕ) (big : Bool) (start width : ℕ) → Single (λ (r : ℕ). r ≡ unpacked (placesIn (length frame) big start width) frame)
+  pub unpack-in : (room : List ℕ) (n : ℕ) (big : Bool) (start width : ℕ)
+      → Single (λ (r : ℕ). r ≡ unpacked (placesIn n big start width) (take n room))
   pub in-range : (value : ℤ) (width : ℕ) (signed : Bool) → Single (λ (r : Bool). r ≡ inRange signed width value)
   pub value-of : (pattern width : ℕ) (signed : Bool) → Single (λ (r : ℤ). r ≡ valueOf signed width pattern)
   pub pattern-of : (value : ℤ) → Single (λ (r : ℕ). r ≡ patternOf 32 value)
   pub is-extended : (pattern width : ℕ) (signed : Bool) → Single (λ (r : Bool). r ≡ extended signed width pattern)
+  -- float; a value of type f32 has a pattern of its own
+  pub is-aside : (x : ℕ) → Single (λ (r : Bool). r ≡ aside x)
+  pub no-sum : Single (λ (r : FloatSum). T (fits binary32 (r .sum)) × (runningOf r ≡ none))
+  pub add : (s : FloatSum) (x : ℕ) → Single (λ (r : FloatSum). T (fits binary32 (r .sum)) × (runningOf r ≡ more (runningOf s) x))
+  pub divide : (s : FloatSum) → Single (λ (r : FloatMean). r ≡ finish (runningOf s))
+  pub rank-of : (x : ℕ) → Single (λ (r : ℤ). r ≡ rankOf x)
   -- agreement, filter
   pub agree : (agreement : ℕ) (instances : List ℤ) → Single (λ (r : Agreed). r ≡ agreed agreement instances)
-  pub pass : (filter : ℕ) (signed : Bool) (x1 x2 : ℕ) (new old : ℤ) → Single (λ (r : Bool). r ≡ passes filter signed x1 x2 new old)
+  pub agree-floats : (agreement : ℕ) (instances : List ℤ) → Single (λ (r : Agreed). r ≡ floatsAgreed agreement instances)
+  pub pass : (filter sign x1 x2 : ℕ) (new old : ℤ) → Single (λ (r : Bool). r ≡ passes filter sign x1 x2 new old)
   -- record
   pub byte-at : (file : List ℕ) (i k : ℕ) → Single (λ (r : ℕ). r ≡ byteAt file i k)
   pub frame-record : (file : List ℕ) (i : ℕ) → Single (λ (r : FrameRecord). r ≡ frameRecord file i)
@@ -88,6 +104,8 @@ pub record Once : Type 0 where
   pub counts : (b : List ℕ) → Single (λ (r : Counts). r ≡ countsOf (nodeOf b))
   pub head-at : (b : List ℕ) (f : ℕ) → Single (λ (r : Head). r ≡ frameAt (nodeOf b) f .head)
   pub data-at : (b : List ℕ) (f : ℕ) → Single (λ (r : List ℕ). r ≡ dataOf (frameAt (nodeOf b) f))
+  pub room-at : (b : List ℕ) (f : ℕ) → Single (λ (r : List ℕ). r ≡ roomOf b f)
+  pub data-length : (h : Head) → Single (λ (r : ℕ). r ≡ min (h .length) 32)
   pub message-at : (b : List ℕ) (m : ℕ) → Single (λ (r : Message). r ≡ messageAt (nodeOf b) m)
   pub field-at : (b : List ℕ) (d : ℕ) → Single (λ (r : Field). r ≡ fieldAt (nodeOf b) d)
   pub put-delivered : (b : List ℕ) (f k : ℕ)
@@ -103,6 +121,8 @@ pub record Once : Type 0 where
   pub offered-message : (g : Message) (value : ℤ) → Single (λ (r : Message). r ≡ offered g value)
   pub invalidated-message : (g : Message) → Single (λ (r : Message). r ≡ invalidated g)
   pub with-status : (g : Message) (status : ℕ) → Single (λ (r : Message). r ≡ withStatus g status)
+  pub can-hold : (g : Message) (value : ℤ) → Single (λ (r : Bool). r ≡ canHold g value)
+  pub agree-by : (g : Message) (instances : List ℤ) → Single (λ (r : Agreed). r ≡ agreedBy g instances)
   pub agreed-message : (g : Message) (value : Agreed) → Single (λ (r : Message). r ≡ agreedOn g value)
   pub moved-field : (change : Change) (x : Field) → Single (λ (r : Field). r ≡ staged (stageAfter change (x .stage)) x)
   pub stage-gone : (stage : Stage) → Single (λ (r : Bool). r ≡ isGone stage)

@@ -3,19 +3,19 @@
 -- what `packed` says is seen bit by bit.
 -- Assumes nothing.
 use mathlib.Core.Path.{_≡_, refl, sym, ap, _∙_}
-use mathlib.Core.Bool.{Bool, true, false}
+use mathlib.Core.Bool.{Bool, true, false, cond}
 use mathlib.Core.List.{List, [], _∷_}
 use mathlib.Core.Logic.{_⊎_, inl, inr}
 use Prim.Native.Nat.{ℕ, zero, suc, _+_, _-_, _*_, _/_, _%_, _^_, _<_, _≤_}
-use native.Mathlib.Nat.{add-mul, add-zero, div-mul-le-self, le-trans, mod-le, mod-lt, mul-le-mul-right, zero-add}
+use native.Mathlib.Nat.{add-mul, add-zero, div-lt-iff-lt-mul, div-mul-le-self, le-trans, mul-assoc, mod-le, mod-lt, mul-le-mul-right, zero-add}
 use native.Mathlib.Decide.{ℕ-discrete, decLt, decLe}
 use native.Mathlib.Omega.{arith}
-use lib.ListN.{length, getD, set, length-set}
-use lib.Pow.{pow-add, pow-mono, pow-pos, shl-exact, shr-shr, split}
-use lib.Seq.{ext-getD, getD-set-other, getD-set-same, set-out}
+use lib.ListN.{length, getD, set, take, length-set}
+use lib.Pow.{high, pow-add, pow-mono, pow-pos, shl-exact, shr-lt, shr-shr, split}
+use lib.Seq.{ext-getD, getD-set-other, getD-set-same, getD-take, set-out}
 use Rattle.whole.specs.Whole.{Bytes}
-use Rattle.packing.specs.Places.{bitOf, bitAt, placeOf, frameBit, places, packed, unpacked}
-use Rattle.packing.specs.Window.{byteOf, windowOf, withWindow, lowBit, withBits}
+use Rattle.packing.specs.Places.{bitOf, bitAt, placeOf, frameBit, bitPlaces, places, inFrame, placesIn, packed, unpacked, Inside}
+use Rattle.packing.specs.Window.{byteOf, windowOf, withWindow, lowBit, swapped, inOrder, withBits}
 use Rattle.packing.proofs.Bit.{bit-low, bit-high, bit-lowest, same-bits}
 use Rattle.packing.proofs.Frame.{packed-length, packed-bytes, packed-bit, packed-other, lowest}
 use Rattle.packing.proofs.Places.{frame-bit-inside, message-bit, places-at, places-length, places-inside, places-distinct, places-apart}
@@ -36,6 +36,18 @@ with-parts x k n v =
     let a = x / 2 ^ k in
     let old : a * 2 ^ k ≡ a / 2 ^ n * 2 ^ n * 2 ^ k + a % 2 ^ n * 2 ^ k = ap (λ (y : ℕ). y * 2 ^ k) (sym (split a n)) ∙ add-mul _ _ _ in
     omega (arith, split x k, add-mul (a / 2 ^ n * 2 ^ n) (v % 2 ^ n) (2 ^ k))
+
+join-below : (hi lo j k : ℕ) → hi < 2 ^ j → lo < 2 ^ k → hi * 2 ^ k + lo < 2 ^ (j + k)
+join-below hi lo j k h l = rw pow-add (div-lt-iff-lt-mul (pow-pos k) .0 (rw (high hi k l) h))
+
+-- a number of m bits stays one
+pub with-room : (m x k n v : ℕ) → x < 2 ^ m → k + n ≤ m → withBits x k n v < 2 ^ m
+with-room m x k n v h l =
+    let e : m - k - n + n + k ≡ m = omega arith in
+    let above : x / 2 ^ k / 2 ^ n < 2 ^ (m - k - n) = shr-lt (m - k - n) n (shr-lt (m - k - n + n) k (rw e h)) in
+    rw with-parts
+    (rw e at
+    (join-below _ (x % 2 ^ k) (m - k - n + n) k (join-below _ (v % 2 ^ n) (m - k - n) n above (mod-lt v (pow-pos n))) (mod-lt x (pow-pos k))))
 
 with-new : (x k n v j : ℕ) → j < n → bitOf (withBits x k n v) (k + j) ≡ bitOf v j
 with-new x k n v j h =
@@ -109,6 +121,16 @@ module _ (big : Bool) (first past : ℕ) where
       let e : n - (d - 1) ≡ suc (n - d) = omega arith in
       let m : d - 1 + 1 ≡ d = omega arith in
       rw (e, m)
+
+  -- and of the code that reads eight of them, from the lowest on
+  pub read-next : (f : List ℕ) (d n : ℕ)
+      → windowOf big first past f d n + getD f (byteOf big first past (d + n)) 0 * 2 ^ (n * 8) ≡ windowOf big first past f d (suc n)
+  unfolding windowOf
+  read-next f d zero = let e : d + 0 ≡ d = omega arith in rw e (omega arith)
+  read-next f d (suc n) =
+      let e : d + suc n ≡ d + 1 + n = omega arith in
+      let p : 2 ^ (suc n * 8) ≡ 2 ^ (n * 8) * 256 = ap (λ (m : ℕ). 2 ^ m) (omega arith) ∙ pow-add 2 (n * 8) 8 in
+      rw (e, p, ← mul-assoc _ (2 ^ (n * 8)) 256) (omega (arith, read-next f (d + 1) n))
 
   pub write-turn : (f g : List ℕ) (d n y : ℕ) → d < n → withWindow big first past d (n - d) y f ≡ g
       → withWindow big first past (d + 1) (n - (d + 1)) (y / 256) (set f (byteOf big first past d) (y % 256)) ≡ g
@@ -184,6 +206,33 @@ module _ (big : Bool) (first past : ℕ) where
       sym (bit-high 8 (y / 256) (y % 256) (e * 8 + t) (omega arith)) ∙ ap (λ (x : ℕ). bitOf x (8 + (e * 8 + t))) (split y 8)
       in
       rw (s, m) (put-bit (d + 1) n (y / 256) e t _ (omega arith) (rw length-set i) (omega arith) l ∙ high)
+
+-- the number in big order is the number in little order with its bytes swapped
+swapped-window : (first past : ℕ) (f : List ℕ) → Bytes f → (d n : ℕ) → past ≡ first + (d + n)
+    → swapped n (windowOf false first past f d n) (windowOf true first past f n d) ≡ windowOf true first past f 0 (d + n)
+unfolding swapped windowOf byteOf
+swapped-window first past f b d zero e = let z : d + 0 ≡ d = omega arith in rw z
+swapped-window first past f b d (suc n) e =
+    let s : d + suc n ≡ suc d + n = omega arith in
+    let y = windowOf false first past f (d + 1) n in
+    let x = getD f (first + d) 0 in
+    let up : (y * 256 + x) / 256 ≡ y = omega (arith, b (first + d)) in
+    let low : (y * 256 + x) % 256 ≡ x = omega (arith, b (first + d)) in
+    let at : first + d ≡ past - 1 - n = omega arith in
+    let m : n + 1 ≡ suc n = omega arith in
+    let o : d + 1 ≡ suc d = omega arith in
+    rw (s, up, low, o, at) (rw m at (swapped-window first past f b (suc d) n (omega arith)))
+
+big-window : (first n : ℕ) (f : List ℕ) → Bytes f
+    → swapped n (windowOf false first (first + n) f 0 n) 0 ≡ windowOf true first (first + n) f 0 n
+unfolding windowOf
+big-window first n f b = rw (zero-add n) at (swapped-window first (first + n) f b 0 n (omega arith))
+
+pub ordered-window : (big : Bool) (first : ℕ) (f : List ℕ) → Bytes f
+    → inOrder big (windowOf false first (first + 8) f 0 8) ≡ windowOf big first (first + 8) f 0 8
+unfolding inOrder
+ordered-window false first f b = refl
+ordered-window true first f b = big-window first 8 f b
 
 -- ---- a frame bit as a bit of the number
 
@@ -264,31 +313,40 @@ shifted (p ∷ ps) f x k h =
     let first : x / 2 ^ k % 2 ≡ bitAt f p = rw add-zero at (h 0 (omega arith)) in
     omega (arith, lowest (x / 2 ^ k) (length ps))
 
-module _ (big : Bool) (s w : ℕ) where
-  abbrev firstOf : ℕ
-  firstOf = s / 8
+-- the places in the first n bytes
+pub unpacked-take : (n : ℕ) (ps f : List ℕ) → Inside n ps → unpacked ps (take n f) ≡ unpacked ps f
+unfolding unpacked bitAt
+unpacked-take n [] f i = refl
+unpacked-take n (p ∷ ps) f i = rw (getD-take n f (p / 8) 0 (omega arith), unpacked-take n ps f (i .1))
 
-  abbrev pastOf : ℕ
-  pastOf = (s + w + 7) / 8
+pub unpacked-none : (n : ℕ) (big : Bool) (s w : ℕ) (f : List ℕ) → w ≡ 0 → unpacked (placesIn n big s w) f ≡ 0
+unfolding placesIn places bitPlaces unpacked
+unpacked-none n big s w f e = rw e (go (inFrame n s 0))
+  where
+    go : (t : Bool) → unpacked (cond t (places big s 0) []) f ≡ 0
+    go true = refl
+    go false = refl
 
+-- in any bytes that hold it
+module _ (big : Bool) (first past s w : ℕ) (from : first * 8 ≤ s) (to : s + w ≤ past * 8) where
   abbrev lowOf : ℕ
-  lowOf = lowBit big s pastOf (s + w)
+  lowOf = lowBit big first past s (s + w)
 
-  number-in : (j : ℕ) → j < w → bitNumber big firstOf pastOf (frameBit big s w j) ≡ lowOf + j
+  number-in : (j : ℕ) → j < w → bitNumber big first past (frameBit big s w j) ≡ lowOf + j
   unfolding bitNumber frameBit lowBit
   number-in j h = go big
     where
-      go : (o : Bool) → bitNumber o firstOf pastOf (frameBit o s w j) ≡ lowBit o s pastOf (s + w) + j
+      go : (o : Bool) → bitNumber o first past (frameBit o s w j) ≡ lowBit o first past s (s + w) + j
       go false = omega arith
       go true = omega arith
 
-  number-outside : (i : ℕ) → firstOf * 8 ≤ i → i < pastOf * 8 → (i < s) ⊎ (s + w ≤ i)
-      → (bitNumber big firstOf pastOf i < lowOf) ⊎ (lowOf + w ≤ bitNumber big firstOf pastOf i)
+  number-outside : (i : ℕ) → first * 8 ≤ i → i < past * 8 → (i < s) ⊎ (s + w ≤ i)
+      → (bitNumber big first past i < lowOf) ⊎ (lowOf + w ≤ bitNumber big first past i)
   unfolding bitNumber lowBit
   number-outside i h l o = go big o
     where
       go : (b : Bool) → (i < s) ⊎ (s + w ≤ i)
-          → (bitNumber b firstOf pastOf i < lowBit b s pastOf (s + w)) ⊎ (lowBit b s pastOf (s + w) + w ≤ bitNumber b firstOf pastOf i)
+          → (bitNumber b first past i < lowBit b first past s (s + w)) ⊎ (lowBit b first past s (s + w) + w ≤ bitNumber b first past i)
       go false (inl a) = inl (omega arith)
       go false (inr a) = inr (omega arith)
       go true (inl a) = inr (omega arith)
@@ -296,38 +354,38 @@ module _ (big : Bool) (s w : ℕ) where
 
   -- it is unpacked by a shift and a remainder
   pub unpacked-window : (f : List ℕ) → Bytes f
-      → unpacked (places big s w) f ≡ windowOf big firstOf pastOf f 0 (pastOf - firstOf) / 2 ^ lowOf % 2 ^ w
+      → unpacked (places big s w) f ≡ windowOf big first past f 0 (past - first) / 2 ^ lowOf % 2 ^ w
   unpacked-window f b = rw places-length at (shifted (places big s w) f _ lowOf (λ j l. bit j (rw places-length at l)))
     where
-      bit : (j : ℕ) → j < w → bitOf (windowOf big firstOf pastOf f 0 (pastOf - firstOf)) (lowOf + j) ≡ bitAt f (getD (places big s w) j 0)
+      bit : (j : ℕ) → j < w → bitOf (windowOf big first past f 0 (past - first)) (lowOf + j) ≡ bitAt f (getD (places big s w) j 0)
       bit j h =
           let i = frame-bit-inside big s w j h in
-          rw (places-at big s w j h, ← number-in j h) (read-bit big firstOf pastOf (frameBit big s w j) (omega arith) (omega arith) f b)
+          rw (places-at big s w j h, ← number-in j h) (read-bit big first past (frameBit big s w j) (omega arith) (omega arith) f b)
 
   -- and packed by putting its bits into the number
-  module _ (v : ℕ) (f : List ℕ) (b : Bytes f) (h : s + w ≤ length f * 8) where
+  module _ (v : ℕ) (f : List ℕ) (b : Bytes f) (inside : past ≤ length f) where
     abbrev number : ℕ
-    number = windowOf big firstOf pastOf f 0 (pastOf - firstOf)
+    number = windowOf big first past f 0 (past - first)
 
     abbrev written : List ℕ
-    written = withWindow big firstOf pastOf 0 (pastOf - firstOf) (withBits number lowOf w v) f
+    written = withWindow big first past 0 (past - first) (withBits number lowOf w v) f
 
     new-bit : (j : ℕ) → j < w → bitAt written (placeOf big (frameBit big s w j)) ≡ bitOf v j
     new-bit j l =
         let i = frame-bit-inside big s w j l in
-        written-bit big firstOf pastOf (frameBit big s w j) (omega arith) (omega arith) (withBits number lowOf w v) f (omega arith)
+        written-bit big first past (frameBit big s w j) (omega arith) (omega arith) (withBits number lowOf w v) f (omega arith)
         ∙ rw (number-in j l) (with-new number lowOf w v j l)
 
     old-bit : (i : ℕ) → (i < s) ⊎ (s + w ≤ i) → bitAt written (placeOf big i) ≡ bitAt f (placeOf big i)
-    old-bit i o = go (decLe (firstOf * 8) i) (decLt i (pastOf * 8))
+    old-bit i o = go (decLe (first * 8) i) (decLt i (past * 8))
       where
-        go : Dec (firstOf * 8 ≤ i) → Dec (i < pastOf * 8) → bitAt written (placeOf big i) ≡ bitAt f (placeOf big i)
+        go : Dec (first * 8 ≤ i) → Dec (i < past * 8) → bitAt written (placeOf big i) ≡ bitAt f (placeOf big i)
         go (yes a) (yes c) =
-            written-bit big firstOf pastOf i a c (withBits number lowOf w v) f (omega arith)
-            ∙ with-other number lowOf w v (bitNumber big firstOf pastOf i) (number-outside i a c o)
-            ∙ read-bit big firstOf pastOf i a c f b
-        go (no a) c = kept-bit big firstOf pastOf i (withBits number lowOf w v) f (inl (omega arith))
-        go (yes a) (no c) = kept-bit big firstOf pastOf i (withBits number lowOf w v) f (inr (omega arith))
+            written-bit big first past i a c (withBits number lowOf w v) f (omega arith)
+            ∙ with-other number lowOf w v (bitNumber big first past i) (number-outside i a c o)
+            ∙ read-bit big first past i a c f b
+        go (no a) c = kept-bit big first past i (withBits number lowOf w v) f (inl (omega arith))
+        go (yes a) (no c) = kept-bit big first past i (withBits number lowOf w v) f (inr (omega arith))
 
     each-bit : (i : ℕ) → bitAt written (placeOf big i) ≡ bitAt (packed (places big s w) v f) (placeOf big i)
     each-bit i = go (decLt i s) (decLt i (s + w))
@@ -344,12 +402,12 @@ module _ (big : Bool) (s w : ℕ) where
             (new-bit (m .0) (m .1)
             ∙ sym
             (rw (places-at big s w (m .0) (m .1)) at
-            (packed-bit (places big s w) v f (m .0) (places-inside big (length f) s w h) (places-distinct big s w) (rw places-length (m .1)))))
+            (packed-bit (places big s w) v f (m .0) (places-inside big (length f) s w (omega arith)) (places-distinct big s w) (rw places-length (m .1)))))
 
     pub packed-window : written ≡ packed (places big s w) v f
     packed-window =
         same-frames big written (packed (places big s w) v f)
-        (put-length big firstOf pastOf 0 (pastOf - firstOf) (withBits number lowOf w v) f ∙ sym (packed-length (places big s w) v f))
-        (put-bytes big firstOf pastOf 0 (pastOf - firstOf) (withBits number lowOf w v) f b)
+        (put-length big first past 0 (past - first) (withBits number lowOf w v) f ∙ sym (packed-length (places big s w) v f))
+        (put-bytes big first past 0 (past - first) (withBits number lowOf w v) f b)
         (packed-bytes (places big s w) v f b)
         (λ i l. each-bit i)

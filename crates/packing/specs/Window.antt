@@ -2,7 +2,7 @@
 -- Assumes nothing.
 use mathlib.Core.Bool.{Bool, true, false}
 use mathlib.Core.List.{List}
-use Prim.Native.Nat.{ℕ, zero, suc, _+_, _-_, _*_, _/_, _%_, _^_, _≤_}
+use Prim.Native.Nat.{ℕ, zero, suc, _+_, _-_, _*_, _/_, _%_, _^_, _<_, _≤_}
 use lib.ListN.{getD, set}
 
 -- the bytes first .. past of a frame of n bytes, no more than a message of 32 bits can touch
@@ -11,6 +11,16 @@ pub record Window (n first past : ℕ) : Type 0 where
   pub inside : past ≤ n
   pub few : past ≤ first + 5
   pub short : past ≤ 36
+
+-- at most eight bytes that hold a field from start to end
+pub record Around (first past start end : ℕ) : Type 0 where
+  pub from : first * 8 ≤ start
+  pub forward : start ≤ end
+  pub to : end ≤ past * 8
+  pub few : past ≤ first + 8
+  pub short : past ≤ 44
+  pub before : start < first * 8 + 64
+  pub behind : past * 8 < end + 64
 
 -- byte d of these, counted from the one with the message's lowest bits
 unfoldable pub byteOf : Bool → ℕ → ℕ → ℕ → ℕ
@@ -28,9 +38,19 @@ withWindow big first past d zero y f = f
 withWindow big first past d (suc n) y f = withWindow big first past (d + 1) n (y / 256) (set f (byteOf big first past d) (y % 256))
 
 -- the number's bit that is the lowest of a field from start to end
-unfoldable pub lowBit : Bool → ℕ → ℕ → ℕ → ℕ
-lowBit false start past end = start % 8
-lowBit true start past end = past * 8 - end
+unfoldable pub lowBit : Bool → ℕ → ℕ → ℕ → ℕ → ℕ
+lowBit false first past start end = start - first * 8
+lowBit true first past start end = past * 8 - end
+
+-- the lowest n bytes of x, in the other order, behind r
+unfoldable pub swapped : ℕ → ℕ → ℕ → ℕ
+swapped zero x r = r
+swapped (suc n) x r = swapped n (x / 256) (r * 256 + x % 256)
+
+-- eight bytes that were read in little order, or are to be written in it, as a number in the frame's order
+unfoldable pub inOrder : Bool → ℕ → ℕ
+inOrder false x = x
+inOrder true x = swapped 8 x 0
 
 -- the number x with the lowest n bits of v for its n bits from bit k on
 unfoldable pub withBits : ℕ → ℕ → ℕ → ℕ → ℕ

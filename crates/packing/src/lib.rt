@@ -1,11 +1,12 @@
 // Packing and unpacking of a message's bits, the status bit among them, and the values that their patterns stand for.
 ghost use mathlib.Core.Path.{_≡_};
-ghost use Prim.Native.Nat.{_+_, _-_, _*_, _<_, _≤_, _^_};
-ghost use lib.ListN.{length};
+ghost use mathlib.Core.Bool.{false};
+ghost use Prim.Native.Nat.{_+_, _-_, _*_, _/_, _%_, _<_, _≤_, _^_};
+ghost use lib.ListN.{length, take};
 ghost use lib.Signed.{mag};
 ghost use Rattle.packing.specs.Places.{places, inFrame, placesIn, packed, unpacked};
 ghost use Rattle.packing.specs.Values.{inRange, valueOf, patternOf, extended};
-ghost use Rattle.packing.specs.Window.{Window, byteOf, windowOf, withWindow, lowBit, withBits};
+ghost use Rattle.packing.specs.Window.{Window, Around, byteOf, windowOf, withWindow, lowBit, swapped, inOrder, withBits};
 
 // ---- a field's bytes, first .. past, as one number
 
@@ -42,17 +43,52 @@ fn put_window(frame: &mut [u8], big: bool, first: usize, past: usize, number: u6
     }
 }
 
-// The number's bit that is the lowest of the field.
-fn low_bit(big: bool, start: usize, past: usize, end: usize) -> usize
-    requires { ⌜ (end ≤ past * 8) × (past * 8 < end + 8) × (past ≤ 36) ⌝ }
-    ensures { λ r. ⌜ (r ≡ lowBit big start past end) × (r < 8) ⌝ }
+// Eight bytes, each put at its own place from the lowest on, so that a compiler makes one load of them.
+fn eight_bytes(frame: &[u8], at: usize) -> u64
+    requires { ⌜ (at + 8 ≤ length (now frame)) × (at ≤ 36) ⌝ }
+    ensures { λ r. ⌜ r ≡ windowOf false at (at + 8) (now (frame .entry)) 0 8 ⌝ }
 {
-    if big { past * 8 - end } else { start % 8 }
+    let mut x: u64 = 0;
+    for d in 0..8 {
+        x += (frame[at + d] as u64) << (d * 8);
+    }
+    x
+}
+
+// Eight bytes in the other order: one instruction.
+fn swap(x: u64) -> u64
+    ensures { λ r. ⌜ r ≡ swapped 8 x 0 ⌝ }
+{
+    let mut y = x;
+    let mut r: u64 = 0;
+    for d in 0..8u64 {
+        r = r * 256 + y % 256;
+        y = y / 256;
+    }
+    r
+}
+
+fn in_order(big: bool, x: u64) -> u64
+    ensures { λ r. ⌜ r ≡ inOrder big x ⌝ }
+{
+    if big { swap(x) } else { x }
+}
+
+// The number's bit that is the lowest of the field.
+fn low_bit(big: bool, first: usize, past: usize, start: usize, end: usize) -> usize
+    requires { ⌜ Around first past start end ⌝ }
+    ensures { λ r. ⌜ (r ≡ lowBit big first past start end) × (r < 64) × (r + (end - start) ≤ 64) ⌝ }
+{
+    if big {
+        past * 8 - end
+    } else {
+        start - first * 8
+    }
 }
 
 // The old bits are taken out and the new ones put in, so that the other bits stay.
 fn with_bits(x: u64, k: usize, width: usize, pattern: u32) -> u64
-    requires { ⌜ (x < 2 ^ 40) × (k < 8) × (width ≤ 32) ⌝ }
+    requires { ⌜ (k < 64) × (k + width ≤ 64) × (width ≤ 32) ⌝ }
     ensures { λ r. ⌜ r ≡ withBits x k width pattern ⌝ }
 {
     let m = 1u64 << width;
@@ -74,10 +110,19 @@ fn pack_bits(frame: &mut [u8], big: bool, start: usize, width: usize, pattern: u
     ensures { λ _. ⌜ now (frame .exit) ≡ packed (places big start width) pattern (now (frame .entry)) ⌝ }
 {
     let first = start / 8;
+    let end = start + width;
     let past = first + (start % 8 + width + 7) / 8;
     let x = window(&frame[..], big, first, past);
-    let k = low_bit(big, start, past, start + width);
+    let k = low_bit(big, first, past, start, end);
     put_window(frame, big, first, past, with_bits(x, k, width, pattern));
+}
+
+fn cut(x: u64, k: usize, width: usize) -> u32
+    requires { ⌜ (k < 64) × (width ≤ 32) ⌝ }
+    ensures { λ r. ⌜ r ≡ x / 2 ^ k % 2 ^ width ⌝ }
+{
+    let m = 1u64 << width;
+    ((x >> k) % m) as u32
 }
 
 fn unpack_bits(frame: &[u8], big: bool, start: usize, width: usize) -> u32
@@ -87,8 +132,20 @@ fn unpack_bits(frame: &[u8], big: bool, start: usize, width: usize) -> u32
     let first = start / 8;
     let past = first + (start % 8 + width + 7) / 8;
     let x = window(frame, big, first, past);
-    let m = 1u64 << width;
-    ((x >> low_bit(big, start, past, start + width)) % m) as u32
+    cut(x, low_bit(big, first, past, start, start + width), width)
+}
+
+fn unpack_wide(room: &[u8], big: bool, start: usize, width: usize) -> u32
+    requires { ⌜ (start + width + 64 ≤ length (now room) * 8) × (start ≤ 255) × (0 < width) × (width ≤ 32) ⌝ }
+    ensures { λ r. ⌜ r ≡ unpacked (places big start width) (now (room .entry)) ⌝ }
+{
+    let first = start / 8;
+    let x = in_order(big, eight_bytes(room, first));
+    cut(
+        x,
+        low_bit(big, first, first + 8, start, start + width),
+        width,
+    )
 }
 
 // A pattern's lowest bits into the field's places. A status bit is a field of width 1. A field that does not lie in the frame changes nothing.
@@ -106,6 +163,19 @@ pub fn unpack(frame: &[u8], big: bool, start: u8, width: u8) -> u32
 {
     if in_frame(frame.len(), start, width) {
         return unpack_bits(frame, big, start as usize, width as usize);
+    }
+    0
+}
+
+// The same of the first n bytes of a room that goes on behind them, so that eight bytes can be read wherever the field lies.
+pub fn unpack_in(room: &[u8], n: usize, big: bool, start: u8, width: u8) -> u32
+    requires { ⌜ n + 8 ≤ length (now room) ⌝ }
+    ensures { λ r. ⌜ r ≡ unpacked (placesIn n big start width) (take n (now (room .entry))) ⌝ }
+{
+    if 0 < width {
+        if in_frame(n, start, width) {
+            return unpack_wide(room, big, start as usize, width as usize);
+        }
     }
     0
 }

@@ -10,12 +10,12 @@ use native.Mathlib.Omega.{arith}
 use lib.Dec.{eqb, ltb}
 use lib.ListN.{getD}
 use borrow.Author.Tests.{ne-eqb, eqb-true, ltb-true, lt-leb, le-leb}
-use Rattle.packing.specs.Values.{extended}
 use Rattle.record.specs.Records.{byteAt, isMessage, frameAt, messageAt, fieldAt}
 use Rattle.record.specs.Ranges.{
   wrongIf,
   usesX1,
   usesX2,
+  wordFits,
   wordFinding,
   frameFindings,
   messageFindings,
@@ -27,7 +27,7 @@ use Rattle.record.specs.Ranges.{
   nonzeroAt,
   findingAt,
 }
-use Rattle.record.specs.Claims.{named, WordAt, UnusedWord, WideWord, Claims}
+use Rattle.record.specs.Claims.{named, WordAt, UnusedWord, UnfitWord, Claims}
 use Rattle.record.proofs.Tests.{meanings}
 use Rattle.record.proofs.Lowest.{wrong-if-right, listed}
 use Rattle.record.specs.declared.Frame.{Frame}
@@ -117,18 +117,17 @@ unfolding wrongIf
 found-wrong true fault = inr (refl, refl)
 found-wrong false fault = inl (refl, refl)
 
--- a word is right, not used and not zero, or else not extended
+-- a word is right, not used and not zero, or else does not fit
 data Told (g : Message) (used : Bool) (x : ℕ) : Type 0 where
-  right : wordFinding g used x ≡ Finding.Right → extended (eqb (g .sign) 1) (g .width) x ≡ true → (used ≡ false → x ≡ 0) → Told g used x
+  right : wordFinding g used x ≡ Finding.Right → wordFits g x ≡ true → (used ≡ false → x ≡ 0) → Told g used x
   unused : wordFinding g used x ≡ Finding.Wrong Fault.Unused → used ≡ false → (x ≡ 0 → ⊥) → Told g used x
-  width :
-      wordFinding g used x ≡ Finding.Wrong Fault.Width → extended (eqb (g .sign) 1) (g .width) x ≡ false → (used ≡ false → x ≡ 0) → Told g used x
+  width : wordFinding g used x ≡ Finding.Wrong Fault.Width → wordFits g x ≡ false → (used ≡ false → x ≡ 0) → Told g used x
 
 told : (g : Message) (used : Bool) (x : ℕ) → Told g used x
 unfolding wordFinding
 told g used x = go _ _ refl refl
   where
-    go : (u e : Bool) → (not used && not (eqb x 0)) ≡ u → extended (eqb (g .sign) 1) (g .width) x ≡ e → Told g used x
+    go : (u e : Bool) → (not used && not (eqb x 0)) ≡ u → wordFits g x ≡ e → Told g used x
     go true e first fits = let both = simp meanings at first in Told.unused (rw first refl) (both .0) (both .1)
     go false true first fits = Told.right (rw (first, fits) (wrong-if-right false Fault.Width .1 refl)) fits (simp meanings at first)
     go false false first fits =
@@ -145,7 +144,7 @@ module _ (s : List ℕ) (i k : ℕ) where
     range : findingAt s i k ≡ Finding.Wrong Fault.Range → is-named ≡ true → k < 8 → Way
     reserved : findingAt s i k ≡ Finding.Wrong Fault.Reserved → is-named ≡ false → nonzeroAt s i k ≡ true → Way
     unused : findingAt s i k ≡ Finding.Wrong Fault.Unused → is-named ≡ true → UnusedWord s i k → Way
-    width : findingAt s i k ≡ Finding.Wrong Fault.Width → is-named ≡ true → WideWord s i k → Way
+    width : findingAt s i k ≡ Finding.Wrong Fault.Width → is-named ≡ true → UnfitWord s i k → Way
 
   way : Way
   way = go (said s i k)
@@ -161,7 +160,7 @@ module _ (s : List ℕ) (i k : ℕ) where
           word (Told.unused f off nonzero) =
               Way.unused (e ∙ f) n (record { message = message; used = used; value = x; word = at; not-used = off; not-zero = nonzero })
           word (Told.width f wide none) =
-              Way.width (e ∙ f) n (record { message = message; used = used; value = x; word = at; too-wide = wide; not-unused = none })
+              Way.width (e ∙ f) n (record { message = message; used = used; value = x; word = at; unfit = wide; not-unused = none })
 
   -- two findings that differ
   differ : {f g : Finding} {A : Type 0} → findingAt s i k ≡ f → findingAt s i k ≡ g → (tag f ≡ tag g → ⊥) → A
@@ -236,10 +235,10 @@ module _ (s : List ℕ) (i k : ℕ) where
       from off nonzero (Told.unused e a b) = e
       from off nonzero (Told.width e wide none) = absurd (nonzero (none off))
 
-  width-way : (findingAt s i k ≡ Finding.Wrong Fault.Width) ↔ WideWord s i k
-  width-way = (to way, λ u. word-found (u .message) (u .word) ∙ from (u .too-wide) (u .not-unused) (told _ _ _))
+  width-way : (findingAt s i k ≡ Finding.Wrong Fault.Width) ↔ UnfitWord s i k
+  width-way = (to way, λ u. word-found (u .message) (u .word) ∙ from (u .unfit) (u .not-unused) (told _ _ _))
     where
-      to : Way → findingAt s i k ≡ Finding.Wrong Fault.Width → WideWord s i k
+      to : Way → findingAt s i k ≡ Finding.Wrong Fault.Width → UnfitWord s i k
       to (Way.right e n) w = differ e w (λ z. omega arith)
       to (Way.range e n l) w = differ e w (λ z. omega arith)
       to (Way.reserved e n o) w = differ e w (λ z. omega arith)
@@ -247,7 +246,7 @@ module _ (s : List ℕ) (i k : ℕ) where
       to (Way.width e n u) w = u
 
       from :
-          {g : Message} {used : Bool} {x : ℕ} → extended (eqb (g .sign) 1) (g .width) x ≡ false → (used ≡ false → x ≡ 0) → Told g used x
+          {g : Message} {used : Bool} {x : ℕ} → wordFits g x ≡ false → (used ≡ false → x ≡ 0) → Told g used x
           → wordFinding g used x ≡ Finding.Wrong Fault.Width
       from wide zeros (Told.right e fits none) = absurd (true≢false (sym fits ∙ wide))
       from wide zeros (Told.unused e off nonzero) = absurd (nonzero (zeros off))

@@ -6,11 +6,10 @@ use mathlib.Core.Bool.{Bool, true, false, cond, _||_}
 use mathlib.Core.List.{List}
 use mathlib.Core.Logic.{_↔_}
 use Prim.Native.Nat.{ℕ, _<_}
-use lib.Dec.{eqb, leb}
-use Rattle.packing.specs.Values.{extended}
+use lib.Dec.{leb}
 use Rattle.record.specs.Numbers.{within}
 use Rattle.record.specs.Records.{byteAt, isMessage, messageAt}
-use Rattle.record.specs.Ranges.{usesX1, usesX2, findingAt}
+use Rattle.record.specs.Ranges.{usesX1, usesX2, wordFits, findingAt}
 use Rattle.record.specs.declared.Message.{Message}
 use Rattle.record.specs.declared.Fault.{Fault}
 use Rattle.record.specs.declared.Finding.{Finding}
@@ -34,13 +33,13 @@ pub record UnusedWord (s : List ℕ) (i k : ℕ) : Type 0 where
   pub not-used : used ≡ false
   pub not-zero : value ≡ 0 → ⊥
 
--- it is the first of a word of a message that is not extended from the width; one that is not used is zero
-pub record WideWord (s : List ℕ) (i k : ℕ) : Type 0 where
+-- it is the first of a word of a message that does not fit: not extended from the width, or a float's that is not finite; one that is not used is zero
+pub record UnfitWord (s : List ℕ) (i k : ℕ) : Type 0 where
   pub message : isMessage s i ≡ true
   pub used : Bool
   pub value : ℕ
   pub word : WordAt (messageAt s i) k used value
-  pub too-wide : extended (eqb (messageAt s i .sign) 1) (messageAt s i .width) value ≡ false
+  pub unfit : wordFits (messageAt s i) value ≡ false
   pub not-unused : used ≡ false → value ≡ 0
 
 pub record Claims : Type 0 where
@@ -49,8 +48,8 @@ pub record Claims : Type 0 where
       → (findingAt s i k ≡ Finding.Wrong Fault.Reserved) ↔ ((named (isMessage s i) k ≡ false) × (byteAt s i k ≡ 0 → ⊥))
   -- UNUSED: a word that the filter does not use, and not zero
   pub unused : (s : List ℕ) (i k : ℕ) → (findingAt s i k ≡ Finding.Wrong Fault.Unused) ↔ UnusedWord s i k
-  -- WIDTH: a word that does not fit the width, and is not UNUSED
-  pub width : (s : List ℕ) (i k : ℕ) → (findingAt s i k ≡ Finding.Wrong Fault.Width) ↔ WideWord s i k
+  -- WIDTH: a word that does not fit, and is not UNUSED
+  pub width : (s : List ℕ) (i k : ℕ) → (findingAt s i k ≡ Finding.Wrong Fault.Width) ↔ UnfitWord s i k
   -- RANGE for the rest: a byte that is named, belongs to no word and is not right; the words begin at byte 8, and other records name none from there on
   pub range : (s : List ℕ) (i k : ℕ)
       → (findingAt s i k ≡ Finding.Wrong Fault.Range) ↔ ((named (isMessage s i) k ≡ true) × (k < 8) × (findingAt s i k ≡ Finding.Right → ⊥))

@@ -7,6 +7,7 @@ use Prim.Native.Nat.{ℕ, _<_}
 use lib.Dec.{eqb, ltb}
 use lib.ListN.{getD}
 use Rattle.packing.specs.Values.{extended}
+use Rattle.float.specs.Patterns.{aside}
 use Rattle.record.specs.Numbers.{within, anyBelow, leastBelow}
 use Rattle.record.specs.Records.{byteAt, frameAt, messageAt, fieldAt}
 use Rattle.record.specs.declared.Frame.{Frame}
@@ -27,10 +28,21 @@ usesX1 filter = within 2 3 filter || within 6 9 filter
 abbrev pub usesX2 : ℕ → Bool
 usesX2 filter = within 2 3 filter || within 8 9 filter
 
--- a word of a message: UNUSED where it is not used and not zero, and after that WIDTH where it is not extended from the width
+-- filters 2, 3, 6, 7 are the masks
+abbrev pub isMask : ℕ → Bool
+isMask filter = within 2 3 filter || within 6 7 filter
+
+-- sign 2 is that of a float
+abbrev pub isFloat : Message → Bool
+isFloat g = eqb (g .sign) 2
+
+-- a word of a message fits: it is extended from the width, and that of a float is finite
+unfoldable pub wordFits : Message → ℕ → Bool
+wordFits g x = extended (eqb (g .sign) 1) (g .width) x && not (isFloat g && aside x)
+
+-- a word of a message: UNUSED where it is not used and not zero, and after that WIDTH where it does not fit
 unfoldable pub wordFinding : Message → Bool → ℕ → Finding
-wordFinding g used x =
-    cond (not used && not (eqb x 0)) (Finding.Wrong Fault.Unused) (wrongIf (not (extended (eqb (g .sign) 1) (g .width) x)) Fault.Width)
+wordFinding g used x = cond (not used && not (eqb x 0)) (Finding.Wrong Fault.Unused) (wrongIf (not (wordFits g x)) Fault.Width)
 
 -- a frame's bytes 0 to 5: kind, number, length, order, direction, trigger
 abbrev pub frameFindings : Frame → List Finding
@@ -43,16 +55,17 @@ frameFindings h =
     ∷ wrongIf (ltb 1 (h .trigger)) Fault.Range
     ∷ []
 
--- a message's bytes 0 to 19: kind, number, width, sign, direction, agreement, filter, one not named, and the words x1, x2 and initial value
+-- a message's bytes 0 to 19: kind, number, width, sign, direction, agreement, filter, one not named, and the words x1, x2 and initial value;
+-- a float has 32 bits, and takes no mask
 abbrev pub messageFindings : Message → Bool → List Finding
 messageFindings g other =
     Finding.Right
     ∷ wrongIf (ltb 31 (g .number)) Fault.Range
     ∷ wrongIf (not (within 1 32 (g .width))) Fault.Range
-    ∷ wrongIf (ltb 1 (g .sign)) Fault.Range
+    ∷ wrongIf (ltb 2 (g .sign) || (isFloat g && not (eqb (g .width) 32))) Fault.Range
     ∷ wrongIf (ltb 1 (g .direction)) Fault.Range
     ∷ wrongIf (ltb 2 (g .agreement) || (eqb (g .direction) 1 && not (eqb (g .agreement) 0))) Fault.Range
-    ∷ wrongIf (ltb 13 (g .filter)) Fault.Range
+    ∷ wrongIf (ltb 13 (g .filter) || (isFloat g && isMask (g .filter))) Fault.Range
     ∷ wrongIf other Fault.Reserved
     ∷ wordFinding g (usesX1 (g .filter)) (g .x1) ∷ Finding.Right ∷ Finding.Right ∷ Finding.Right
     ∷ wordFinding g (usesX2 (g .filter)) (g .x2) ∷ Finding.Right ∷ Finding.Right ∷ Finding.Right

@@ -42,7 +42,7 @@ frameAt s i =
       trigger = byteAt s i 5;
     }
 
--- read as a message: sign 0 unsigned, 1 signed
+-- read as a message: sign 0 unsigned, 1 signed, 2 float
 unfoldable pub messageAt : List ℕ → ℕ → Message
 messageAt s i =
     record {

@@ -4,6 +4,7 @@ ghost use Prim.Native.Nat.{_≤_};
 ghost use Rattle.record.specs.Records.{byteAt, wordAt, frameAt, messageAt, fieldAt, recordAt, pairBelow};
 ghost use Rattle.record.specs.Ranges.{
   wrongIf,
+  wordFits,
   wordFinding,
   frameFinding,
   messageFinding,
@@ -180,14 +181,22 @@ fn wrong_if(wrong: bool, fault: Fault) -> Finding
     Finding::Right
 }
 
+fn does_word_fit(g: Message, x: u32) -> bool
+    ensures { λ b. ⌜ b ≡ wordFits g x ⌝ }
+{
+    let extended = packing::is_extended(x, g.width, g.sign == 1);
+    let aside = float::is_aside(x);
+    extended & !((g.sign == 2) & aside)
+}
+
 fn word_finding(g: Message, used: bool, x: u32) -> Finding
     ensures { λ f. ⌜ f ≡ wordFinding g used x ⌝ }
 {
-    let extended = packing::is_extended(x, g.width, g.sign == 1);
+    let fits = does_word_fit(g, x);
     if !used & !(x == 0) {
         return Finding::Wrong(Fault::Unused);
     }
-    wrong_if(!extended, Fault::Width)
+    wrong_if(!fits, Fault::Width)
 }
 
 // Of byte k, `other` says that it is not zero.
@@ -212,14 +221,17 @@ fn message_finding(g: Message, k: u8, other: bool) -> Finding
     let uses_x1 = ((2 <= f) & (f <= 3)) | ((6 <= f) & (f <= 9));
     let uses_x2 = ((2 <= f) & (f <= 3)) | ((8 <= f) & (f <= 9));
     let agreement = (2 < g.agreement) | ((g.direction == 1) & !(g.agreement == 0));
+    let mask = ((2 <= f) & (f <= 3)) | ((6 <= f) & (f <= 7));
+    let sign = (2 < g.sign) | ((g.sign == 2) & !(g.width == 32));
+    let filter = (13 < f) | ((g.sign == 2) & mask);
     match k {
         0 => Finding::Right,
         1 => wrong_if(31 < g.number, Fault::Range),
         2 => wrong_if(!((1 <= g.width) & (g.width <= 32)), Fault::Range),
-        3 => wrong_if(1 < g.sign, Fault::Range),
+        3 => wrong_if(sign, Fault::Range),
         4 => wrong_if(1 < g.direction, Fault::Range),
         5 => wrong_if(agreement, Fault::Range),
-        6 => wrong_if(13 < g.filter, Fault::Range),
+        6 => wrong_if(filter, Fault::Range),
         7 => wrong_if(other, Fault::Reserved),
         8 => word_finding(g, uses_x1, g.x1),
         9..=11 => Finding::Right,

@@ -1,15 +1,18 @@
 -- Where the node's cells lie: the region law at its three regions. A cell is read from its place in the memory, and a write there is the node with
 -- that one element replaced.
 -- Assumes nothing.
-use mathlib.Core.Path.{_≡_, ap, _∙_}
+use mathlib.Core.Path.{_≡_, ap, sym, _∙_}
 use mathlib.Core.List.{List, [], _∷_}
 use mathlib.Core.Logic.{inl, inr}
 use Prim.Native.Nat.{ℕ, _+_, _*_, _<_, min}
 use native.Mathlib.Nat.{add-zero}
 use native.Mathlib.Omega.{arith}
-use lib.ListN.{length, getD}
+use lib.ListN.{length, getD, take, drop}
+use lib.Seq.{take-take}
 use Rattle.store.specs.Memory.{part, over}
 use Rattle.store.specs.Node.{
+  Frame,
+  headOf,
   frameOf,
   messageOf,
   fieldOf,
@@ -19,6 +22,7 @@ use Rattle.store.specs.Node.{
   messagesAt,
   fieldsAt,
   nodeOf,
+  roomOf,
   noFrame,
   noMessage,
   noField,
@@ -57,6 +61,19 @@ module _ (b : List ℕ) where
         ∙ frame-data (part b at 37) (length-part b at 37 (omega arith))
         ∙ part-within b at 37 5 (min (getD (part b at 37) 0 0) 32) (omega arith) (omega arith)
         ∙ ap (λ (k : ℕ). part b (at + 5) (min k 32)) first
+
+    -- and the room that they lie in goes on behind them
+    pub room-length : (f : ℕ) → f < 32 → length (roomOf b f) ≡ 40
+    unfolding roomOf
+    room-length f h = length-part b (framesAt + f * 37 + 5) 40 (omega arith)
+
+    pub data-in-room : (f : ℕ) → f < 32 → take (min (frameAt (nodeOf b) f .head .length) 32) (roomOf b f) ≡ dataOf (frameAt (nodeOf b) f)
+    unfolding frameOf headOf roomOf
+    data-in-room f h =
+        let at : ℕ = framesAt + f * 37 in
+        let first : getD (part b at 37) 0 0 ≡ getD b at 0 = part-byte b at 37 0 (omega arith) ∙ ap (λ (i : ℕ). getD b i 0) (add-zero at) in
+        let length-read : frameAt (nodeOf b) f .head .length ≡ getD b at 0 = ap (λ (x : Frame). x .head .length) (frame-read f h) ∙ first in
+        rw length-read (take-take (min (getD b at 0) 32) 40 (drop (at + 5) b) (omega arith)) ∙ sym (data-read f h)
 
     pub frame-written : (f : ℕ) (c : List ℕ) → f < 32 → length c ≡ 37
         → nodeOf (over b (framesAt + f * 37) 37 c) ≡ withFrame (nodeOf b) f (frameOf c)

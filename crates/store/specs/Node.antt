@@ -4,7 +4,7 @@
 use mathlib.Core.Path.{_≡_}
 use mathlib.Core.Bool.{Bool, true, not}
 use mathlib.Core.List.{List, [], _∷_, _++_}
-use Prim.Native.Nat.{ℕ, zero, suc, _+_, _/_, _%_, _^_, _<_, min}
+use Prim.Native.Nat.{ℕ, zero, suc, _+_, _*_, _/_, _%_, _^_, _<_, min}
 use lib.Dec.{eqb}
 use lib.IntN.{pos}
 use lib.ListN.{length, getD, set, take, drop, replicate}
@@ -12,7 +12,7 @@ use lib.Seq.{paste}
 use Rattle.whole.specs.Whole.{word}
 use Rattle.packing.specs.Values.{inRange, valueOf, patternOf}
 use Rattle.layout.specs.declared.Counts.{Counts}
-use Rattle.store.specs.Memory.{cells, uncells}
+use Rattle.store.specs.Memory.{part, cells, uncells}
 use Rattle.store.specs.declared.Stage.{Stage}
 use Rattle.store.specs.declared.Stage.the-variants.{Waiting, Loaded, Gone}
 use Rattle.store.specs.declared.Head.{Head}
@@ -52,6 +52,9 @@ fieldCount n = countsOf n .fields
 
 abbrev pub isSigned : Message → Bool
 isSigned g = eqb (g .sign) 1
+
+abbrev pub isFloat : Message → Bool
+isFloat g = eqb (g .sign) 2
 
 abbrev pub isSent : Message → Bool
 isSent g = eqb (g .direction) 1
@@ -178,6 +181,10 @@ unfoldable pub bytesOf : Node → List ℕ
 bytesOf n =
     n .frame-number ∷ n .message-number ∷ n .field-number
     ∷ cells frameBytes (n .frames) ++ (cells messageBytes (n .messages) ++ cells fieldBytes (n .fields))
+
+-- the 32 bytes of memory in which the data of frame f lie, and the eight behind them, which are not the frame's
+unfoldable pub roomOf : List ℕ → ℕ → List ℕ
+roomOf b f = part b (framesAt + f * 37 + 5) 40
 
 -- ---- a cell by its number
 

@@ -18,6 +18,7 @@ ghost use Rattle.store.specs.Node.{
   fieldBytes,
   nodeSize,
   nodeOf,
+  roomOf,
   countsOf,
   dataOf,
   frameAt,
@@ -260,6 +261,24 @@ pub fn data_at(node: &[u8], f: usize) -> &[u8]
     let from = at + 5;
     let end = from + least(node[at], 32);
     &node[from..end]
+}
+
+// The room that they lie in and the eight bytes behind it, so that eight bytes can be read from any byte of the data on.
+pub fn room_at(node: &[u8], f: usize) -> &[u8]
+    requires { ⌜ (f < 32) × (length (now node) ≡ nodeSize) ⌝ }
+    ensures { λ r. ⌜ now r ≡ roomOf (now (node .entry)) f ⌝ }
+{
+    let at = 3 + f * 37;
+    let from = at + 5;
+    let end = from + 40;
+    &node[from..end]
+}
+
+// How many of the room's bytes are data.
+pub fn data_length(h: Head) -> usize
+    ensures { λ r. ⌜ r ≡ min (h .length) 32 ⌝ }
+{
+    least(h.length, 32)
 }
 
 pub fn message_at(node: &[u8], m: usize) -> Message

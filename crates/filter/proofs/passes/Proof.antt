@@ -1,15 +1,17 @@
 -- `filter::passes` meets its contract: at each number the code's test is the rule of that number in the table, once what was computed before the
 -- match is named (`Known`). Assumes nothing.
-use mathlib.Core.Path.{_≡_, ap, sym, _∙_}
-use mathlib.Core.Bool.{false, not}
+use mathlib.Core.Path.{_≡_, refl, ap, ap₂, sym, _∙_}
+use mathlib.Core.Bool.{false, not, _&&_, _||_}
 use Prim.Native.Nat.{ℕ, _+_, _≤_}
 use native.Mathlib.Omega.{arith}
+use lib.IntN.{ℤ}
 use lib.ListN.{List·getD-eq-default}
 use mir.Syntax.{w64}
-use mir.Val.{toZ, ofZ}
+use mir.Val.{SFits, toZ, ofZ}
 use mir.ValLaws.{toZ-ofZ}
 use Rattle.whole.proofs.Integers.{bits-eq}
-use Rattle.filter.specs.Filter.{masked, bound, rules, passes}
+use Rattle.filter.specs.Filter.{masked, bound, rules, passes, keyOf}
+use Rattle.filter.proofs.Keys.{key-below, key-at-most}
 use borrow.Author.Needs.{needs}
 use Rattle.filter.proofs.passes.Statement.{statement}
 use Rattle.filter.proofs.passes.Tie as tie
@@ -23,33 +25,53 @@ mask-requires-2 c κs = search needs
 bound-of-requires : tie.Need-bound-of-requires
 bound-of-requires c κs = search needs
 
+key-of-requires : tie.Need-key-of-requires
+key-of-requires c κs = search needs
+
 bound-of-requires-2 : tie.Need-bound-of-requires-2
 bound-of-requires-2 c κs = search needs
 
-abbrev start : tie.After-bound-of2 → tie.Start
-start c = c .before .before .before .before
+key-of-requires-2 : tie.Need-key-of-requires-2
+key-of-requires-2 c κs = search needs
 
--- the values are read back from their bits, and the masked patterns and the bounds are those of the definition
-record Known (c : tie.After-bound-of2) : Type 0 where
-  new-back : toZ w64 (ofZ w64 (start c .args .new)) ≡ start c .args .new
-  old-back : toZ w64 (ofZ w64 (start c .args .old)) ≡ start c .args .old
-  masked-new : c .before .before .before .mask .result ≡ masked (start c .args .x1) (start c .args .new)
-  masked-old : c .before .before .mask2 .result ≡ masked (start c .args .x1) (start c .args .old)
-  low : toZ w64 (ofZ w64 (c .before .bound-of .result)) ≡ bound (start c .args .signed) (start c .args .x1)
-  high : toZ w64 (ofZ w64 (c .bound-of2 .result)) ≡ bound (start c .args .signed) (start c .args .x2)
+key-of-requires-3 : tie.Need-key-of-requires-3
+key-of-requires-3 c κs = search needs
 
-known : (c : tie.After-bound-of2) → Known c
+key-of-requires-4 : tie.Need-key-of-requires-4
+key-of-requires-4 c κs = search needs
+
+abbrev start : tie.After-key-of4 → tie.Start
+start c = c .before .before .before .before .before .before .before .before
+
+-- a key that `key_of` answers for a value that was read back
+keyed : (sign : ℕ) (u r v : ℤ) → SFits w64 r → r ≡ keyOf sign (toZ w64 (ofZ w64 u)) → SFits w64 u → u ≡ v → toZ w64 (ofZ w64 r) ≡ keyOf sign v
+keyed sign u r v f e g h = toZ-ofZ w64 r f ∙ e ∙ ap (keyOf sign) (toZ-ofZ w64 u g ∙ h)
+
+-- the masked patterns and the keys are those of the definition
+record Known (c : tie.After-key-of4) : Type 0 where
+  masked-new : c .before .before .before .before .before .before .before .mask .result ≡ masked (start c .args .x1) (start c .args .new)
+  masked-old : c .before .before .before .before .before .before .mask2 .result ≡ masked (start c .args .x1) (start c .args .old)
+  low : toZ w64 (ofZ w64 (c .before .before .before .before .key-of .result)) ≡ keyOf (start c .args .sign) (bound (start c .args .sign) (start c .args .x1))
+  high : toZ w64 (ofZ w64 (c .before .before .key-of2 .result)) ≡ keyOf (start c .args .sign) (bound (start c .args .sign) (start c .args .x2))
+  new : toZ w64 (ofZ w64 (c .before .key-of3 .result)) ≡ keyOf (start c .args .sign) (start c .args .new)
+  old : toZ w64 (ofZ w64 (c .key-of4 .result)) ≡ keyOf (start c .args .sign) (start c .args .old)
+
+known : (c : tie.After-key-of4) → Known c
 known c =
     let a = start c .args in
-    let n = toZ-ofZ w64 (a .new) (start c .fits .new) in
-    let o = toZ-ofZ w64 (a .old) (start c .fits .old) in
+    let f = start c .fits in
+    let b₁ = c .before .before .before .before .before .bound-of in
+    let b₂ = c .before .before .before .bound-of2 in
+    let k₁ = c .before .before .before .before .key-of in
+    let k₂ = c .before .before .key-of2 in
     record {
-      new-back = n;
-      old-back = o;
-      masked-new = c .before .before .before .mask .ensures ∙ ap (masked (a .x1)) n;
-      masked-old = c .before .before .mask2 .ensures ∙ ap (masked (a .x1)) o;
-      low = toZ-ofZ w64 (c .before .bound-of .result) (record { sfits = c .before .bound-of .ok }) ∙ c .before .bound-of .ensures;
-      high = toZ-ofZ w64 (c .bound-of2 .result) (record { sfits = c .bound-of2 .ok }) ∙ c .bound-of2 .ensures;
+      masked-new =
+          c .before .before .before .before .before .before .before .mask .ensures ∙ ap (masked (a .x1)) (toZ-ofZ w64 (a .new) (f .new));
+      masked-old = c .before .before .before .before .before .before .mask2 .ensures ∙ ap (masked (a .x1)) (toZ-ofZ w64 (a .old) (f .old));
+      low = keyed (a .sign) (b₁ .result) (k₁ .result) _ (record { sfits = k₁ .ok }) (k₁ .ensures) (record { sfits = b₁ .ok }) (b₁ .ensures);
+      high = keyed (a .sign) (b₂ .result) (k₂ .result) _ (record { sfits = k₂ .ok }) (k₂ .ensures) (record { sfits = b₂ .ok }) (b₂ .ensures);
+      new = keyed (a .sign) (a .new) (c .before .key-of3 .result) _ (record { sfits = c .before .key-of3 .ok }) (c .before .key-of3 .ensures) (f .new) refl;
+      old = keyed (a .sign) (a .old) (c .key-of4 .result) _ (record { sfits = c .key-of4 .ok }) (c .key-of4 .ensures) (f .old) refl;
     }
 
 returns : tie.Need-returns
@@ -86,27 +108,45 @@ returns-8 c = let k = known (c .before) in rw (c .match .keys8) (cc (k .masked-n
 
 returns-9 : tie.Need-returns-9
 unfolding passes rules
-returns-9 c = let k = known (c .before) in rw (c .match .keys9, k .low, k .high, k .new-back)
+returns-9 c =
+    let k = known (c .before) in
+    let a = start (c .before) .args in
+    rw (c .match .keys9, k .low, k .high, k .new) (ap₂ (λ s t. s && t) (key-at-most (a .sign) (bound (a .sign) (a .x1)) (a .new)) (key-at-most (a .sign) (a .new) (bound (a .sign) (a .x2))))
 
 returns-10 : tie.Need-returns-10
 unfolding passes rules
-returns-10 c = let k = known (c .before) in rw (c .match .keys10, k .low, k .high, k .new-back)
+returns-10 c =
+    let k = known (c .before) in
+    let a = start (c .before) .args in
+    rw (c .match .keys10, k .low, k .high, k .new) (ap₂ (λ s t. s || t) (key-below (a .sign) (a .new) (bound (a .sign) (a .x1))) (key-below (a .sign) (bound (a .sign) (a .x2)) (a .new)))
 
 returns-11 : tie.Need-returns-11
 unfolding passes rules
-returns-11 c = let k = known (c .before) in rw (c .match .keys11, k .new-back, k .old-back)
+returns-11 c =
+    let k = known (c .before) in
+    let a = start (c .before) .args in
+    rw (c .match .keys11, k .new, k .old) (key-below (a .sign) (a .old) (a .new))
 
 returns-12 : tie.Need-returns-12
 unfolding passes rules
-returns-12 c = let k = known (c .before) in rw (c .match .keys12, k .new-back, k .old-back)
+returns-12 c =
+    let k = known (c .before) in
+    let a = start (c .before) .args in
+    rw (c .match .keys12, k .new, k .old) (key-at-most (a .sign) (a .new) (a .old))
 
 returns-13 : tie.Need-returns-13
 unfolding passes rules
-returns-13 c = let k = known (c .before) in rw (c .match .keys13, k .new-back, k .old-back)
+returns-13 c =
+    let k = known (c .before) in
+    let a = start (c .before) .args in
+    rw (c .match .keys13, k .new, k .old) (key-below (a .sign) (a .new) (a .old))
 
 returns-14 : tie.Need-returns-14
 unfolding passes rules
-returns-14 c = let k = known (c .before) in rw (c .match .keys14, k .new-back, k .old-back)
+returns-14 c =
+    let k = known (c .before) in
+    let a = start (c .before) .args in
+    rw (c .match .keys14, k .new, k .old) (key-at-most (a .sign) (a .old) (a .new))
 
 -- a number that is none of five is past them
 past-five : (n k : ℕ) → n ≤ k → (k ≡ n → ⊥) → (k ≡ n + 1 → ⊥) → (k ≡ n + 2 → ⊥) → (k ≡ n + 3 → ⊥) → (k ≡ n + 4 → ⊥) → n + 5 ≤ k
@@ -124,7 +164,7 @@ returns-15 c =
     let above-four : 4 ≤ k = omega (arith, low .1, low .0 .1, low .0 .0 .1, low .0 .0 .0 .1) in
     let above-nine = past-five 4 k above-four (middle .0 .0 .0 .0 .1) (middle .0 .0 .0 .1) (middle .0 .0 .1) (middle .0 .1) (middle .1) in
     sym
-    (List·getD-eq-default (rules (a .signed) (a .x1) (a .x2) (a .new) (a .old)) false
+    (List·getD-eq-default (rules (a .sign) (a .x1) (a .x2) (a .new) (a .old)) false
     (past-five 9 k above-nine (high .0 .0 .0 .0 .1) (high .0 .0 .0 .1) (high .0 .0 .1) (high .0 .1) (high .1)))
 
 pub passes-spec : {M : Type 1} → statement M
@@ -134,7 +174,11 @@ passes-spec =
     mask-requires
     mask-requires-2
     bound-of-requires
+    key-of-requires
     bound-of-requires-2
+    key-of-requires-2
+    key-of-requires-3
+    key-of-requires-4
     returns
     returns-2
     returns-3

@@ -1,31 +1,35 @@
--- `message::offered_message` meets its contract, by whether the value passed. Assumes nothing.
-use mathlib.Core.Path.{_≡_, sym, _∙_}
-use mathlib.Core.Bool.{true, false}
+-- `message::offered_message` meets its contract, by whether the filter passes the value; what is stored as its bits is read back, since it fits.
+-- Assumes nothing.
+use mathlib.Core.Path.{_≡_, refl, sym, _∙_}
+use native.Mathlib.Omega.{arith}
 use mir.Syntax.{w64}
+use mir.Val.{toZ, ofZ}
 use mir.ValLaws.{toZ-ofZ}
 use borrow.Author.Needs.{needs}
 use Rattle.message.specs.Messages.{passesNow, offered}
 use Rattle.message.proofs.offered_message.Statement.{statement}
 use Rattle.message.proofs.offered_message.Tie as tie
 
-is-passed-requires : tie.Need-is-passed-requires
-is-passed-requires c κs = search needs
+passes-requires : tie.Need-passes-requires
+passes-requires c κs = search needs
+
+module _ (c : tie.After-passes) where
+  back : toZ w64 (ofZ w64 (c .before .before .args .value)) ≡ c .before .before .args .value
+  back = toZ-ofZ w64 (c .before .before .args .value) (c .before .before .fits .value)
+
+  decided : passesNow (c .before .before .args .g) (c .before .before .args .value) ≡ c .passes .result
+  unfolding passesNow
+  decided =
+      let old = toZ-ofZ w64 (c .before .before .args .g .old) (record { sfits = omega (arith, c .before .struct-told .given) }) in
+      sym (rw (back, old) at (c .passes .ensures))
 
 returns : tie.Need-returns
 unfolding offered
-returns c =
-    let start = c .before .before in
-    let back = toZ-ofZ w64 (start .args .value) (start .fits .value) in
-    let passed : passesNow (start .args .g) (start .args .value) ≡ true = sym (rw back at (c .before .is-passed .ensures)) ∙ c .if1 .taken in
-    rw (back, passed)
+returns c = rw (back (c .before), decided (c .before) ∙ c .if1 .taken) refl
 
 returns-2 : tie.Need-returns-2
 unfolding offered
-returns-2 c =
-    let start = c .before .before in
-    let back = toZ-ofZ w64 (start .args .value) (start .fits .value) in
-    let stopped : passesNow (start .args .g) (start .args .value) ≡ false = sym (rw back at (c .before .is-passed .ensures)) ∙ c .if1 .left in
-    rw (back, stopped)
+returns-2 c = rw (back (c .before), decided (c .before) ∙ c .if1 .left) refl
 
 pub offered-message-spec : {M : Type 1} → statement M
-offered-message-spec = tie.close (tie.spec is-passed-requires returns returns-2)
+offered-message-spec = tie.close (tie.spec passes-requires returns returns-2)

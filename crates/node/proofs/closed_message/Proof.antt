@@ -6,10 +6,9 @@ use mathlib.Core.List.{[]}
 use native.Mathlib.Omega.{arith}
 use lib.Seq.{length-take-le}
 use borrow.Author.Needs.{needs}
-use Rattle.agreement.specs.Agreement.{agreed}
 use Rattle.agreement.specs.declared.Agreed.{Agreed}
 use Rattle.store.specs.Node.{nodeOf}
-use Rattle.message.specs.Messages.{withStatus, agreedOn}
+use Rattle.message.specs.Messages.{withStatus, agreedBy, agreedOn}
 use Rattle.node.specs.Closing.{instances, closedMessage}
 use Rattle.node.proofs.Rounds.{closed-none, closed-some}
 use Rattle.node.proofs.closed_message.Statement.{statement}
@@ -46,11 +45,11 @@ returns-none-counts c = c .with-status2 .ensures ∙ sym (rw (c .before .if2 .le
 array-share-prefix-values : tie.Need-array-share-prefix-values
 array-share-prefix-values c = omega (arith, c .before .gather .ensures)
 
-slice-aggregate-agree : tie.Need-slice-aggregate-agree
-slice-aggregate-agree c = sym (length-take-le (c .before .before .gather .result) _ (omega (arith, c .before .before .gather .ensures)))
+slice-aggregate-agree-by : tie.Need-slice-aggregate-agree-by
+slice-aggregate-agree-by c = sym (length-take-le (c .before .before .gather .result) _ (omega (arith, c .before .before .gather .ensures)))
 
-agree-requires : tie.Need-agree-requires
-agree-requires c κs = search needs
+agree-by-requires : tie.Need-agree-by-requires
+agree-by-requires c κs = search needs
 
 agreed-message-requires : tie.Need-agreed-message-requires
 agreed-message-requires c κs = search needs
@@ -65,7 +64,7 @@ returns-agreed c =
     let r = got .gather .result in
     let size = length-take-le r (got .gather .last .1 .1 .1 .0) (omega (arith, got .gather .ensures)) in
     c .agreed-message .ensures
-    ∙ ap (λ (v : Agreed). agreedOn (a .g) v) (agreed-on .agree .ensures ∙ ap (agreed (a .g .agreement)) (got .gather .ensures .2))
+    ∙ ap (λ (v : Agreed). agreedOn (a .g) v) (agreed-on .agree-by .ensures ∙ ap (agreedBy (a .g)) (got .gather .ensures .2))
     ∙ sym (closed-some n (a .message) (a .g) (rw (← got .gather .ensures .2) (omega arith)))
 
 pub closed-message-spec : {M : Type 1} → statement M
@@ -79,7 +78,7 @@ closed-message-spec =
     with-status-requires-2
     returns-none-counts
     array-share-prefix-values
-    slice-aggregate-agree
-    agree-requires
+    slice-aggregate-agree-by
+    agree-by-requires
     agreed-message-requires
     returns-agreed)

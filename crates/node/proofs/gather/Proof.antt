@@ -3,17 +3,16 @@
 -- Assumes nothing.
 use mathlib.Core.Path.{_≡_, refl, ap, sym, _∙_}
 use mathlib.Core.Bool.{Bool, true, false, cond, _&&_}
-use mathlib.Core.List.{List, _∷_, [], _++_, append-assoc, append-nil}
+use mathlib.Core.List.{List, _∷_, _++_, append-nil}
 use mathlib.Core.Logic.{⊎-elim}
-use Prim.Native.Nat.{ℕ, _+_, _-_, _<_, _≤_}
-use native.Mathlib.Numerals.{add-one}
+use Prim.Native.Nat.{_+_, _-_, _<_, _≤_}
 use native.Mathlib.Omega.{arith}
 use lib.IntN.{ℤ}
-use lib.ListN.{length, take, set, length-set}
-use lib.Seq.{take-suc-set}
+use lib.ListN.{length, take, length-set}
 use mir.Syntax.{w64}
 use mir.ValLaws.{toZ-ofZ}
 use borrow.Author.Needs.{needs}
+use Rattle.whole.proofs.Loops.{taken-more}
 use Rattle.store.specs.Node.{nodeOf}
 use Rattle.store.proofs.Laws.{fields-length}
 use Rattle.node.specs.declared.Cells.{Cells}
@@ -30,10 +29,6 @@ Inv-loop node message g values₀ c owner from end n₀ d₀ values n d =
 
 abbrev μ-loop : tie.MeasureT-loop
 μ-loop node message g values₀ c owner from end n₀ d₀ values n d = end - d
-
--- one element more is stored
-taken-more : (l : List ℤ) (n : ℕ) (v : ℤ) (rest : List ℤ) → n < length l → take n l ++ v ∷ rest ≡ take (n + 1) (set l n v) ++ rest
-taken-more l n v rest h = rw (add-one, take-suc-set l n v h) (sym (append-assoc (take n l) (v ∷ []) rest))
 
 few : (c : tie.In-loop Inv-loop μ-loop) → c .before .loop .n < 8
 few c =

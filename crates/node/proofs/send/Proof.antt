@@ -9,12 +9,12 @@ use mir.Syntax.{w64}
 use mir.Val.{toZ, ofZ}
 use mir.ValLaws.{toZ-ofZ}
 use borrow.Author.Needs.{needs}
-use Rattle.packing.specs.Values.{inRange}
 use Rattle.packing.proofs.Values.{range-wider}
 use Rattle.store.specs.declared.Message.{Message}
 use Rattle.store.specs.Node.{Node, Stored, isSigned, nodeOf, messageAt, withMessage}
 use Rattle.store.proofs.Laws.{message-stored}
-use Rattle.message.specs.Messages.{passesNow, offered}
+use Rattle.message.specs.Messages.{canHold, passesNow, offered}
+use Rattle.message.proofs.Held.{held-in-range}
 use Rattle.node.specs.Calls.{sendAnswer, sendOf}
 use Rattle.node.proofs.Lists.{by-test}
 use Rattle.node.proofs.Answers.{in-memory, send-tests}
@@ -52,10 +52,10 @@ in-cell c =
     in-memory (start .args .message) (nodeOf (start .args .node .now) .message-number) _ _ (accepted c)
 
 -- a message that the memory holds, with a value in its range
-offered-stored : (g : Message) (v : ℤ) → Stored g → inRange (isSigned g) (g .width) v ≡ true → Stored (offered g v)
+offered-stored : (g : Message) (v : ℤ) → Stored g → canHold g v ≡ true → Stored (offered g v)
 unfolding offered
 offered-stored g v old within =
-    let new = range-wider (isSigned g) (g .width) v within in
+    let new = range-wider (isSigned g) (g .width) v (held-in-range g v within) in
     by-test Stored (passesNow g v) (λ t. record { held = new; old = new }) (λ t. record { held = old .held; old = new })
 
 message-at-requires : tie.Need-message-at-requires

@@ -27,28 +27,28 @@ returns-2 c =
     let number = c .before .before .before in
     rw (lt-ltb _ _ (rw (number .before .counts .ensures) at (number .if1 .left)), rw (c .before .before .message-at .ensures) at (c .if2 .taken))
 
-in-range-requires : tie.Need-in-range-requires
-in-range-requires c κs = search needs
+can-hold-requires : tie.Need-can-hold-requires
+can-hold-requires c κs = search needs
 
 returns-3 : tie.Need-returns-3
 unfolding sendAnswer
 returns-3 c =
-    let access = c .before .before .before in
+    let access = c .before .before in
     let read = access .before .before .message-at .ensures in
     let number = access .before .before .before in
     let start = number .before .before .before in
     rw (lt-ltb _ _ (rw (number .before .counts .ensures) at (number .if1 .left)), rw read at (access .if2 .left))
-    (rw (rw (c .before .in-range .ensures, read, toZ-ofZ w64 (start .args .value) (start .fits .value)) at (c .if3 .taken)))
+    (rw (rw (c .before .can-hold .ensures, read, toZ-ofZ w64 (start .args .value) (start .fits .value)) at (c .if3 .taken)))
 
 returns-4 : tie.Need-returns-4
 unfolding sendAnswer
 returns-4 c =
-    let access = c .before .before .before in
+    let access = c .before .before in
     let read = access .before .before .message-at .ensures in
     let number = access .before .before .before in
     let start = number .before .before .before in
     rw (lt-ltb _ _ (rw (number .before .counts .ensures) at (number .if1 .left)), rw read at (access .if2 .left))
-    (rw (rw (c .before .in-range .ensures, read, toZ-ofZ w64 (start .args .value) (start .fits .value)) at (c .if3 .left)))
+    (rw (rw (c .before .can-hold .ensures, read, toZ-ofZ w64 (start .args .value) (start .fits .value)) at (c .if3 .left)))
 
 pub send-answer-spec : {M : Type 1} → statement M
 send-answer-spec =
@@ -58,6 +58,6 @@ send-answer-spec =
     returns
     message-at-requires
     returns-2
-    in-range-requires
+    can-hold-requires
     returns-3
     returns-4)

@@ -1,9 +1,19 @@
 -- `node::value_in` meets its contract: the pattern is read where the field lies in the frame's data, and its value comes back from its bits.
 -- Assumes nothing.
-use mathlib.Core.Path.{_∙_}
+use mathlib.Core.Path.{_≡_, refl, ap, ap₂, sym, _∙_}
+use mathlib.Core.Bool.{Bool}
+use mathlib.Core.List.{List}
+use Prim.Native.Nat.{ℕ, _≤_, min}
+use native.Mathlib.Omega.{arith}
+use lib.ListN.{length, take}
+use lib.Seq.{length-take-le}
 use mir.Syntax.{w64}
 use mir.ValLaws.{toZ-ofZ}
 use borrow.Author.Needs.{needs}
+use Rattle.packing.specs.Places.{placesIn, unpacked}
+use Rattle.store.specs.declared.Head.{Head}
+use Rattle.store.specs.Node.{Frame, nodeOf, frameAt, dataOf}
+use Rattle.store.proofs.Places.{room-length, data-in-room}
 use Rattle.node.specs.Closing.{valueIn}
 use Rattle.node.proofs.value_in.Statement.{statement}
 use Rattle.node.proofs.value_in.Tie as tie
@@ -14,24 +24,54 @@ cast-f c = search needs
 head-at-requires : tie.Need-head-at-requires
 head-at-requires c κs = search needs
 
-data-at-requires : tie.Need-data-at-requires
-data-at-requires c κs = search needs
+data-length-requires : tie.Need-data-length-requires
+data-length-requires c κs = search needs
 
-unpack-requires : tie.Need-unpack-requires
-unpack-requires c κs = search needs
+room-at-requires : tie.Need-room-at-requires
+room-at-requires c κs = search needs
+
+unpack-in-requires : tie.Need-unpack-in-requires
+unpack-in-requires c κs =
+    let room = c .before in
+    let s = room .before .before .before .before .before in
+    let size = ap length (room .room-at .ensures) ∙ room-length (s .args .node .now) (s .pre .1) _ (s .pre .0) in
+    omega (arith, size, room .before .data-length .ensures)
 
 value-of-requires : tie.Need-value-of-requires
 value-of-requires c κs = search needs
+
+-- the data are the first n bytes of the room
+in-room : (h : Frame) (r : List ℕ) (n : ℕ) (big : Bool) (start w : ℕ) → length r ≡ 40 → n ≤ 32 → take n r ≡ dataOf h
+    → unpacked (placesIn (length (dataOf h)) big start w) (dataOf h) ≡ unpacked (placesIn n big start w) (take n r)
+in-room h r n big start w l few front =
+    let size : length (dataOf h) ≡ n = ap length (sym front) ∙ length-take-le n r (omega arith) in
+    rw (size, ← front) refl
 
 returns : tie.Need-returns
 unfolding valueIn
 returns c =
     let pattern = c .before .before in
-    let bits = pattern .before .before in
-    rw (← bits .data-at .ensures, ← bits .before .head-at .ensures, ← pattern .unpack .ensures)
+    let room = pattern .before .before in
+    let head = room .before .before in
+    let s = head .before .before .before in
+    let node = s .args .node .now in
+    let f = s .args .x .frame in
+    let n = room .before .data-length .result in
+    let lent = room .room-at .ensures in
+    let cut : n ≡ min (frameAt (nodeOf node) f .head .length) 32 =
+    room .before .data-length .ensures ∙ ap (λ (h : Head). min (h .length) 32) (head .head-at .ensures)
+    in
+    let few : n ≤ 32 = omega arith in
+    let size = ap length lent ∙ room-length node (s .pre .1) f (s .pre .0) in
+    let front = ap₂ take cut lent ∙ data-in-room node (s .pre .1) f (s .pre .0) in
+    rw (
+      in-room (frameAt (nodeOf node) f) _ n _ (s .args .x .start) (s .args .g .width) size few front,
+      ← head .head-at .ensures,
+      ← pattern .unpack-in .ensures,
+    )
     (toZ-ofZ w64 (c .value-of .result) (record { sfits = c .value-of .ok }) ∙ c .value-of .ensures)
 
 pub value-in-spec : {M : Type 1} → statement M
 value-in-spec =
     tie.close
-    (tie.spec cast-f head-at-requires data-at-requires unpack-requires value-of-requires returns)
+    (tie.spec cast-f head-at-requires data-length-requires room-at-requires unpack-in-requires value-of-requires returns)

@@ -2,12 +2,12 @@
 -- Assumes nothing.
 use borrow.Author.Needs.{needs}
 use mathlib.Core.Path.{_≡_}
-use Prim.Native.Nat.{ℕ, _-_, _+_, _*_, _/_, _%_, _^_, _<_, _≤_}
+use Prim.Native.Nat.{ℕ, _-_, _+_, _*_, _/_, _%_, _^_, _≤_}
 use native.Mathlib.Nat.{mod-lt}
 use native.Mathlib.Omega.{arith}
-use lib.Pow.{pow-mono, pow-pos, shl-exact, shl-lt}
+use lib.Pow.{pow-pos, shl-exact}
 use Rattle.packing.specs.Window.{withBits}
-use Rattle.packing.proofs.Windows.{power, field-weight}
+use Rattle.packing.proofs.Windows.{power, field-weight, with-room}
 use Rattle.packing.proofs.with_bits.Statement.{statement}
 use Rattle.packing.proofs.with_bits.Tie as tie
 
@@ -15,17 +15,10 @@ use Rattle.packing.proofs.with_bits.Tie as tie
 part : (y k n : ℕ) → k + n ≤ 64 → y % 2 ^ n * 2 ^ k % 2 ^ 64 ≡ y % 2 ^ n * 2 ^ k
 part y k n h = shl-exact n k 64 (mod-lt y (pow-pos n)) (omega arith)
 
-coded : (x k n v : ℕ) → k < 8 → n ≤ 32
+coded : (x k n v : ℕ) → k + n ≤ 64 → n ≤ 32
     → x - x / 2 ^ k % (1 * 2 ^ n % 2 ^ 64) * 2 ^ k % 2 ^ 64 + v % (1 * 2 ^ n % 2 ^ 64) * 2 ^ k % 2 ^ 64 ≡ withBits x k n v
 unfolding withBits
 coded x k n v h l = rw (power n l, part (x / 2 ^ k) k n (omega arith), part v k n (omega arith))
-
--- what is put in has at most 39 bits
-room : (x k n v : ℕ) → x < 2 ^ 40 → k < 8 → n ≤ 32 → withBits x k n v < 2 ^ 64
-unfolding withBits
-room x k n v h l m =
-    let p = pow-mono {i = n + k} {j = 40} (omega arith) in
-    omega (arith, shl-lt n k (mod-lt v (pow-pos n)))
 
 shl-m : tie.Need-shl-m
 shl-m c = search needs
@@ -54,7 +47,7 @@ put-new-in : tie.Need-add-result
 put-new-in c =
     let a = c .args in
     rw (coded (a .x) (a .k) (a .width) (a .pattern) (omega arith) (omega arith))
-    (record { fits = room (a .x) (a .k) (a .width) (a .pattern) (c .pre .0) (omega arith) (omega arith) })
+    (record { fits = with-room 64 (a .x) (a .k) (a .width) (a .pattern) (omega arith) (omega arith) })
 
 returns : tie.Need-returns
 returns c =

@@ -14,6 +14,10 @@ use Rattle.record.proofs.Arms.{above, at-least, each}
 use Rattle.record.proofs.message_finding.Statement.{statement}
 use Rattle.record.proofs.message_finding.Tie as tie
 
+-- the start, from the place of the `match`
+abbrev start : tie.After-struct-known7 → tie.Start
+start c = c .before .before .before .before .before .before .before
+
 wrong-if-requires : tie.Need-wrong-if-requires
 wrong-if-requires c κs = search needs
 
@@ -63,7 +67,7 @@ returns-3 c = rw (c .before .before .before .match .keys3) (c .wrong-if2 .ensure
 
 returns-4 : tie.Need-returns-4
 unfolding messageFinding
-returns-4 c = rw (c .before .before .match .keys4) (c .wrong-if3 .ensures)
+returns-4 c = rw (c .before .match .keys4) (c .wrong-if3 .ensures)
 
 returns-5 : tie.Need-returns-5
 unfolding messageFinding
@@ -75,7 +79,7 @@ returns-6 c = rw (c .before .match .keys6) (c .wrong-if5 .ensures)
 
 returns-7 : tie.Need-returns-7
 unfolding messageFinding
-returns-7 c = rw (c .before .before .match .keys7) (c .wrong-if6 .ensures)
+returns-7 c = rw (c .before .match .keys7) (c .wrong-if6 .ensures)
 
 returns-8 : tie.Need-returns-8
 unfolding messageFinding
@@ -104,21 +108,21 @@ Said g other k = Finding.Right ≡ getD (messageFindings g other) k (wrongIf oth
 returns-12 : tie.Need-returns-12
 unfolding messageFinding
 returns-12 c =
-    let a = c .before .before .before .before .before .args in
+    let a = start (c .before .before) .args in
     let low = at-least (a .k) 9 (c .before .match .rest .0 .0) in
     each (Said (a .g) (a .other)) 9 3 (refl, (refl, (refl, tt))) (a .k) low (c .if1 .taken)
 
 returns-13 : tie.Need-returns-13
 unfolding messageFinding
 returns-13 c =
-    let a = c .before .before .before .before .before .before .args in
+    let a = start (c .before .before .before) .args in
     let low = above (c .before .if1 .left) (c .before .before .match .rest .0 .1) in
     each (Said (a .g) (a .other)) 13 3 (refl, (refl, (refl, tt))) (a .k) low (c .if2 .taken)
 
 returns-14 : tie.Need-returns-14
 unfolding messageFinding
 returns-14 c =
-    let a = c .before .before .before .before .before .before .before .args in
+    let a = start (c .before .before .before .before) .args in
     let low = above (c .before .if2 .left) (c .before .before .before .match .rest .1) in
     each (Said (a .g) (a .other)) 17 3 (refl, (refl, (refl, tt))) (a .k) low (c .if3 .taken)
 
@@ -127,7 +131,7 @@ returns-14 c =
 returns-15 : tie.Need-returns-15
 unfolding messageFinding
 returns-15 c =
-    let a = c .before .before .before .before .before .before .before .before .args in
+    let a = start (c .before .before .before .before .before) .args in
     c .wrong-if8 .ensures
     ∙ sym (List·getD-eq-default (messageFindings (a .g) (a .other)) (wrongIf (a .other) Fault.Reserved) (c .before .if3 .left))
 

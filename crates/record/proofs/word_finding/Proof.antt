@@ -1,4 +1,4 @@
--- What is found of a word: UNUSED is the definition's own test; whether it is extended is what `is_extended` ensures.
+-- What is found of a word: UNUSED is the definition's own test; whether it fits is what `does_word_fit` ensures.
 -- Assumes nothing.
 use mathlib.Core.Path.{refl}
 use borrow.Author.Needs.{needs}
@@ -6,8 +6,8 @@ use Rattle.record.specs.Ranges.{wordFinding}
 use Rattle.record.proofs.word_finding.Statement.{statement}
 use Rattle.record.proofs.word_finding.Tie as tie
 
-is-extended-requires : tie.Need-is-extended-requires
-is-extended-requires c κs = search needs
+does-word-fit-requires : tie.Need-does-word-fit-requires
+does-word-fit-requires c κs = search needs
 
 returns : tie.Need-returns
 unfolding wordFinding
@@ -18,7 +18,7 @@ wrong-if-requires c κs = search needs
 
 returns-2 : tie.Need-returns-2
 unfolding wordFinding
-returns-2 c = rw (c .before .if1 .left, ← c .before .before .is-extended .ensures) (c .wrong-if .ensures)
+returns-2 c = rw (c .before .if1 .left, ← c .before .before .does-word-fit .ensures) (c .wrong-if .ensures)
 
 pub word-finding-spec : {M : Type 1} → statement M
-word-finding-spec = tie.close (tie.spec is-extended-requires returns wrong-if-requires returns-2)
+word-finding-spec = tie.close (tie.spec does-word-fit-requires returns wrong-if-requires returns-2)

@@ -1,0 +1,12 @@
+pub mod Digits
+pub mod Values
+pub mod Bits
+pub mod Steps
+pub mod Extent
+pub mod Infinite
+pub mod Nearest
+pub mod Signs
+pub mod Itself
+pub mod Ranks
+pub mod Examples
+pub mod Claims

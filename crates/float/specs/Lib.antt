@@ -1,0 +1,4 @@
+pub mod Patterns
+pub mod Rounding
+pub mod Running
+pub mod Claims

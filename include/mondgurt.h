@@ -19,7 +19,7 @@
 extern "C" {
 #endif
 
-#define MONDGURT_NODE 2787 /* the bytes of a node */
+#define MONDGURT_NODE 2979 /* the bytes of a node */
 #define MONDGURT_FILE 4608 /* the bytes of the longest layout file */
 
 /* Equal nodes have equal bytes, so memcmp compares two. An assignment copies one. */

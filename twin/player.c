@@ -19,6 +19,10 @@
 #error "a refusal does not have the paper's number"
 #endif
 
+#if MONDGURT_FILE != 4608
+#error "the longest layout file is not the paper's"
+#endif
+
 /* WIDTH at byte 16 of record 191. */
 #define REFUSED (10 + 256 * 191 + 65536 * 16)
 #if MONDGURT_REFUSAL(REFUSED) != 10 || MONDGURT_RECORD(REFUSED) != 191 || MONDGURT_BYTE(REFUSED) != 16

@@ -5,6 +5,7 @@ use std::ops::Range;
 use crate::calls::Call;
 use crate::files;
 use crate::layout::{read, Layout, Verdict};
+use crate::plans;
 use crate::player::{NodeStep, Step};
 use crate::random::Random;
 use crate::scripts::{closings, other_order, script};
@@ -37,7 +38,7 @@ impl Case {
 
     pub fn of_calls(seed: u64, index: u64) -> Case {
         let mut random = Random::new(seed, index);
-        let file = files::valid(&mut random);
+        let file = plans::valid(&mut random);
         let Verdict::Accepted(layout) = read(&file) else {
             panic!("a valid file is accepted");
         };
@@ -54,7 +55,7 @@ impl Case {
     /// Rounds of received floats, in one order.
     pub fn of_closings(seed: u64, index: u64) -> Case {
         let mut random = Random::new(seed, index);
-        let file = files::build(&mut random, files::FLOATS);
+        let file = plans::build(&mut random, plans::FLOATS);
         Case::in_one_order(file, |layout| closings(&mut random, layout))
     }
 

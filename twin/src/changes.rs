@@ -6,11 +6,11 @@
 
 use std::cmp::Reverse;
 
-use crate::files::{build, valid, Plan, EIGHT_EACH, LARGEST};
 use crate::layout::{
     FIELD, FRAME, GROUP, LONGEST, MESSAGE, NOFIELD, ORDER, PLACE, RANGE, RECORD, REF, RESERVED,
     SIZE, UNUSED, WIDTH,
 };
+use crate::plans::{build, valid, Plan, EIGHT_EACH, LARGEST};
 use crate::random::Random;
 use crate::wrong::{all_places, Place, FLOAT, PLACES};
 

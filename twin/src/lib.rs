@@ -16,6 +16,7 @@ pub mod layout;
 pub mod node;
 pub mod pairs;
 pub mod patterns;
+pub mod plans;
 pub mod player;
 pub mod random;
 pub mod scripts;

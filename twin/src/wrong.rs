@@ -1,10 +1,10 @@
 //! Bytes of a valid record made wrong: the places where RANGE, RESERVED, UNUSED and WIDTH can stand.
 
-use crate::files::{is_float, put_pattern};
 use crate::layout::{
     uses_x1, uses_x2, Fault, FIELD, FRAME, MESSAGE, RANGE, RESERVED, UNUSED, WIDTH,
 };
 use crate::patterns::not_finite;
+use crate::plans::{is_float, put_pattern};
 use crate::random::Random;
 
 /// The bytes of a frame or a field that have no name.

@@ -2,8 +2,9 @@
 //! edges that matter occur.
 
 use twin::changes::{with_change, wrong_at_one, wrong_bytes, CHANGES};
-use twin::files::{file, valid};
+use twin::files::file;
 use twin::layout::{faults, read, Fault, Layout, Message, Sign, Verdict, RECORD};
+use twin::plans::valid;
 use twin::random::Random;
 use twin::wrong::{all_places, Place};
 

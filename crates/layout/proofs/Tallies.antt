@@ -3,7 +3,7 @@
 use mathlib.Core.Path.{_≡_, refl, sym, _∙_}
 use mathlib.Core.Bool.{Bool, true, false, cond, true≢false}
 use mathlib.Core.Logic.{_↔_}
-use Prim.Native.Nat.{ℕ, zero, suc, _+_, _*_, _<_, _≤_}
+use Prim.Native.Nat.{ℕ, zero, suc, _+_, _-_, _*_, _<_, _≤_}
 use native.Mathlib.Nat.{add-zero, add-suc, zero-add, mul-one, mul-zero}
 use native.Mathlib.Numerals.{add-one}
 use native.Mathlib.Omega.{arith}
@@ -21,6 +21,22 @@ pub ruleset sums = (zero-add, add-zero, mul-one, mul-zero)
 pub tally-none : (p : ℕ → Bool) (n : ℕ) → ((k : ℕ) → k < n → p k ≡ false) → tally p n ≡ 0
 unfolding tally
 tally-none p n h = simp sums at (tally-run p false 0 n (λ k l. rw zero-add (h k l)))
+
+-- n numbers more do not lower the count, and raise it by no more than n
+pub tally-grows : (p : ℕ → Bool) (a n : ℕ) → (tally p a ≤ tally p (a + n)) × (tally p (a + n) ≤ tally p a + n)
+unfolding tally
+tally-grows p a zero = rw (add-zero a) (omega arith)
+tally-grows p a (suc n) = rw (add-suc a n) (one-more (p (a + n)) (tally-grows p a n))
+  where
+    one-more :
+        (b : Bool) → (tally p a ≤ tally p (a + n)) × (tally p (a + n) ≤ tally p a + n)
+        → (tally p a ≤ tally p (a + n) + cond b 1 0) × (tally p (a + n) + cond b 1 0 ≤ tally p a + suc n)
+    one-more true h = omega arith
+    one-more false h = omega arith
+
+-- so no fewer pass below a greater number
+pub tally-rises : (p : ℕ → Bool) (a n : ℕ) → a ≤ n → tally p a ≤ tally p n
+tally-rises p a n h = let there : a + (n - a) ≡ n = omega arith in rw there at (tally-grows p a (n - a) .0)
 
 -- if k passes, fewer than x did before it
 abbrev pub Fewer : (ℕ → Bool) → ℕ → ℕ → Type 0

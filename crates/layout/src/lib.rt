@@ -168,7 +168,7 @@ fn one(b: bool) -> usize
 }
 
 // How many of the first n records are fields of message m.
-pub fn fields_of(file: &[u8], m: u8, n: usize) -> usize
+fn fields_of(file: &[u8], m: u8, n: usize) -> usize
     requires { ⌜ n ≤ 192 ⌝ }
     ensures { λ r. ⌜ r ≡ fieldsOf (now (file .entry)) m n ⌝ }
 {

@@ -14,10 +14,12 @@ use Rattle.agreement.specs.Agreement.{countOf, ahead, oneThat, vote}
 use Rattle.agreement.specs.Floats.{leftOf, sumFrom, finiteValue, floatMean, leftAgreed, floatsAgreed}
 use Rattle.filter.specs.Filter.{compared, bound, rules, passes}
 use Rattle.store.specs.declared.Message.{Message}
+use Rattle.store.specs.declared.MessageState.{MessageState}
 use Rattle.store.specs.Node.{isValid}
-use Rattle.message.specs.Messages.{canHold, passesNow, offered, agreedBy, filtered, settled}
+use Rattle.store.specs.Start.{atFirst}
+use Rattle.message.specs.Messages.{canHold, passesNow, put, offered, agreedBy, filtered, settled}
 
--- a float of that agreement and filter, with x1 and x2 -1000 and 1000, that holds +0
+-- a float of that agreement and filter, with x1 and x2 -1000 and 1000
 abbrev float : ℕ → ℕ → Message
 float agreement filter =
     record {
@@ -27,15 +29,15 @@ float agreement filter =
       agreement = agreement;
       filter = filter;
       statusbit = 0;
-      valid = 0;
-      status = 21;
       first = 0;
       fields = 3;
       x1 = 0xc47a_0000;
       x2 = 0x447a_0000;
-      held = pos 0;
-      old = pos 0;
     }
+
+-- it holds +0
+abbrev zero : MessageState
+zero = atFirst 0 0
 
 pub record Rows : Type 0 where
   -- -0 can be held; infinities, NaNs and what is no pattern cannot
@@ -45,24 +47,24 @@ pub record Rows : Type 0 where
   too-large : canHold (float 0 0) (pos 0x1_0000_0000) ≡ false
   negative : canHold (float 0 0) (negsuc 0) ≡ false
   -- the average of 1 and 2 is 1.5
-  mean : settled (float 1 0) false (pos 0x3f80_0000 ∷ pos 0x4000_0000 ∷ []) .held ≡ pos 0x3fc0_0000
+  mean : settled (float 1 0) zero false (pos 0x3f80_0000 ∷ pos 0x4000_0000 ∷ []) .held ≡ 0x3fc0_0000
   -- a NaN alone is 20, no counting instance 22, no frame 21
-  all-aside : settled (float 1 0) false (pos 0x7fc0_0000 ∷ []) .status ≡ 20
-  none-counts : settled (float 1 0) false [] .status ≡ 22
-  none-came : settled (float 1 0) true [] .status ≡ 21
+  all-aside : settled (float 1 0) zero false (pos 0x7fc0_0000 ∷ []) .status ≡ 20
+  none-counts : settled (float 1 0) zero false [] .status ≡ 22
+  none-came : settled (float 1 0) zero true [] .status ≡ 21
   -- filter 8 passes 120.5 and -1000, and not the next float below that
-  within : settled (float 0 8) false (pos 0x42f1_0000 ∷ []) .status ≡ 0
-  at-limit : settled (float 0 8) false (pos 0xc47a_0000 ∷ []) .status ≡ 0
-  below : settled (float 0 8) false (pos 0xc47a_0001 ∷ []) .status ≡ 21
+  within : settled (float 0 8) zero false (pos 0x42f1_0000 ∷ []) .status ≡ 0
+  at-limit : settled (float 0 8) zero false (pos 0xc47a_0000 ∷ []) .status ≡ 0
+  below : settled (float 0 8) zero false (pos 0xc47a_0001 ∷ []) .status ≡ 21
   -- against +0, -0 is not less (12) and at least as large (13), but not equal as a pattern (4, 5)
-  not-less : isValid (offered (float 0 12) (pos 0x8000_0000)) ≡ false
-  not-above : isValid (offered (float 0 13) (pos 0x8000_0000)) ≡ true
-  not-equal : isValid (offered (float 0 4) (pos 0x8000_0000)) ≡ false
-  unequal : isValid (offered (float 0 5) (pos 0x8000_0000)) ≡ true
+  not-less : isValid (offered (float 0 12) zero (pos 0x8000_0000)) ≡ false
+  not-above : isValid (offered (float 0 13) zero (pos 0x8000_0000)) ≡ true
+  not-equal : isValid (offered (float 0 4) zero (pos 0x8000_0000)) ≡ false
+  unequal : isValid (offered (float 0 5) zero (pos 0x8000_0000)) ≡ true
 
 pub rows : Rows
 unfolding
-    canHold passesNow offered agreedBy filtered
+    canHold passesNow put offered agreedBy filtered
     isWidth least greatest inRange valueOf patternOf allOf
     compared bound rules passes
     leftOf sumFrom finiteValue floatMean leftAgreed floatsAgreed countOf ahead oneThat vote

@@ -6,20 +6,16 @@ use Prim.Native.Nat.{ℕ}
 use lib.Dec.{eqb}
 use lib.ListN.{length}
 use Rattle.packing.specs.Places.{placesIn, packed}
-use Rattle.packing.specs.Values.{patternOf}
+use Rattle.record.specs.declared.Field.{Field as FieldRecord}
 use Rattle.store.specs.declared.Stage.{Stage}
 use Rattle.store.specs.declared.Stage.the-variants.{Waiting, Loaded, Gone}
-use Rattle.store.specs.declared.Head.{Head}
+use Rattle.store.specs.declared.Frame.{Frame}
 use Rattle.store.specs.declared.Message.{Message}
-use Rattle.store.specs.declared.Field.{Field}
+use Rattle.store.specs.declared.MessageState.{MessageState}
 use Rattle.store.specs.Node.{isValid, isBig}
 use Rattle.message.specs.declared.Change.{Change}
 
 -- ---- stages
-
--- a field at another stage
-abbrev pub staged : Stage → Field → Field
-staged s x = record { message = x .message; frame = x .frame; start = x .start; status = x .status; place = x .place; stage = s }
 
 -- a sending makes a field waiting at whatever stage it is; an assembly makes a waiting one loaded; consuming makes a loaded one gone
 abbrev pub stageAfter : Change → Stage → Stage
@@ -38,16 +34,13 @@ isGone Waiting = false
 isGone Loaded = false
 isGone (Gone k) = true
 
-abbrev pub goneField : Field → Bool
-goneField x = isGone (x .stage)
-
 -- ---- bits
 
 -- a field's status bit in a frame of that many bytes: no place where it has none
-unfoldable pub statusPlaces : ℕ → Head → Field → List ℕ
+unfoldable pub statusPlaces : ℕ → Frame → FieldRecord → List ℕ
 statusPlaces size h x = cond (eqb (x .status) 1) (placesIn size (isBig h) (x .place) 1) []
 
--- a field of message g writes the held value and, if present, its status bit
-unfoldable pub writes : Head → Message → Field → List ℕ → List ℕ
-writes h g x b =
-    packed (statusPlaces (length b) h x) (cond (isValid g) 1 0) (packed (placesIn (length b) (isBig h) (x .start) (g .width)) (patternOf 32 (g .held)) b)
+-- a field of message g in state s writes the held value and, if present, its status bit
+unfoldable pub writes : Frame → Message → MessageState → FieldRecord → List ℕ → List ℕ
+writes h g s x b =
+    packed (statusPlaces (length b) h x) (cond (isValid s) 1 0) (packed (placesIn (length b) (isBig h) (x .start) (g .width)) (s .held) b)

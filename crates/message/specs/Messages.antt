@@ -1,8 +1,7 @@
--- What a call or a closing makes of one message: its validity, its status, its held and its old value change, and all else stays.
+-- What a call or a closing makes of one message: its state from the one before, by what the layout says of it.
 -- Assumes nothing.
 use mathlib.Core.Bool.{Bool, not, cond, _&&_}
 use mathlib.Core.List.{List, [], _∷_}
-use Prim.Native.Nat.{ℕ}
 use lib.IntN.{ℤ}
 use Rattle.packing.specs.Values.{inRange, patternOf}
 use Rattle.float.specs.Patterns.{aside}
@@ -12,27 +11,8 @@ use Rattle.agreement.specs.declared.Agreed.{Agreed}
 use Rattle.agreement.specs.declared.Agreed.the-variants.{Value, NoResult}
 use Rattle.filter.specs.Filter.{passes}
 use Rattle.store.specs.declared.Message.{Message}
-use Rattle.store.specs.Node.{isSigned, isFloat}
-
--- a message with another validity, status, held and old value
-abbrev pub withState : Message → ℕ → ℕ → ℤ → ℤ → Message
-withState g valid status held old =
-    record {
-      width = g .width;
-      sign = g .sign;
-      direction = g .direction;
-      agreement = g .agreement;
-      filter = g .filter;
-      statusbit = g .statusbit;
-      valid = valid;
-      status = status;
-      first = g .first;
-      fields = g .fields;
-      x1 = g .x1;
-      x2 = g .x2;
-      held = held;
-      old = old;
-    }
+use Rattle.store.specs.declared.MessageState.{MessageState}
+use Rattle.store.specs.Node.{isSigned, isFloat, oldValue, withValid, withStatus, withHeld, withOld}
 
 -- ---- sending
 
@@ -41,35 +21,36 @@ unfoldable pub canHold : Message → ℤ → Bool
 canHold g v = inRange (isSigned g) (g .width) v && not (isFloat g && aside (patternOf 32 v))
 
 -- the message's filter passes the value
-unfoldable pub passesNow : Message → ℤ → Bool
-passesNow g v = passes (g .filter) (g .sign) (g .x1) (g .x2) v (g .old)
+unfoldable pub passesNow : Message → MessageState → ℤ → Bool
+passesNow g s v = passes (g .filter) (g .sign) (g .x1) (g .x2) v (oldValue g s)
 
--- if it passes it is held and the message is valid; if not, the held value stays and the message is invalid; either way it is the next old value
-unfoldable pub offered : Message → ℤ → Message
-offered g v = cond (passesNow g v) (withState g 1 (g .status) v v) (withState g 0 (g .status) (g .held) v)
+-- a value that is put to the filter is the next old value, passed or not; one that passes is held
+unfoldable pub put : Message → MessageState → ℤ → MessageState
+put g s v = cond (passesNow g s v) (withHeld (patternOf 32 v) (withOld (patternOf 32 v) s)) (withOld (patternOf 32 v) s)
 
-abbrev pub invalidated : Message → Message
-invalidated g = withState g 0 (g .status) (g .held) (g .old)
+-- if it passes the message is valid, and if not invalid
+unfoldable pub offered : Message → MessageState → ℤ → MessageState
+offered g s v = withValid (cond (passesNow g s v) 1 0) (put g s v)
+
+abbrev pub invalidated : MessageState → MessageState
+invalidated s = withValid 0 s
 
 -- ---- closing
-
-abbrev pub withStatus : Message → ℕ → Message
-withStatus g s = withState g (g .valid) s (g .held) (g .old)
 
 -- what the counting instances agree on, by the message's agreement: whole numbers, or floats
 unfoldable pub agreedBy : Message → List ℤ → Agreed
 agreedBy g l = cond (isFloat g) (floatsAgreed (g .agreement) l) (agreed (g .agreement) l)
 
--- an agreed value is put to the filter: 0 and it is held, or 21; either way it is the next old value
-unfoldable pub filtered : Message → ℤ → Message
-filtered g v = cond (passesNow g v) (withState g (g .valid) 0 v v) (withState g (g .valid) 21 (g .held) v)
+-- an agreed value is put to the filter: 0, or 21
+unfoldable pub filtered : Message → MessageState → ℤ → MessageState
+filtered g s v = withStatus (cond (passesNow g s v) 0 21) (put g s v)
 
 -- agreement without result is 20
-abbrev pub agreedOn : Message → Agreed → Message
-agreedOn g NoResult = withStatus g 20
-agreedOn g (Value v) = filtered g v
+abbrev pub agreedOn : Message → MessageState → Agreed → MessageState
+agreedOn g s NoResult = withStatus 20 s
+agreedOn g s (Value v) = filtered g s v
 
 -- no frame of it delivered, 21; some delivered but no instance counts, 22; else what the instances agree on
-abbrev pub settled : Message → Bool → List ℤ → Message
-settled g none [] = withStatus g (cond none 21 22)
-settled g none (v ∷ l) = agreedOn g (agreedBy g (v ∷ l))
+abbrev pub settled : Message → MessageState → Bool → List ℤ → MessageState
+settled g s none [] = withStatus (cond none 21 22) s
+settled g s none (v ∷ l) = agreedOn g s (agreedBy g (v ∷ l))

@@ -1,11 +1,13 @@
 // What a call or a closing makes of one message and of one field, by value: no memory.
 ghost use mathlib.Core.Path.{_≡_};
-ghost use Rattle.message.specs.Messages.{canHold, agreedBy, offered, invalidated, withStatus, filtered, agreedOn};
-ghost use Rattle.message.specs.Fields.{staged, stageAfter, isGone, writes};
+ghost use Rattle.store.specs.Node.{withStatus};
+ghost use Rattle.message.specs.Messages.{canHold, agreedBy, offered, invalidated, filtered, agreedOn};
+ghost use Rattle.message.specs.Fields.{stageAfter, isGone, writes};
 use agreement::Agreed;
 use store::Field;
-use store::Head;
+use store::Frame;
 use store::Message;
+use store::MessageState;
 use store::Stage;
 
 // What happens to a field's stage.
@@ -26,50 +28,54 @@ pub fn can_hold(g: Message, value: i64) -> bool
     in_range & !((g.sign == 2) & aside)
 }
 
-// The message after a value was put to its filter.
-pub fn offered_message(g: Message, value: i64) -> Message
-    ensures { λ r. ⌜ r ≡ offered g value ⌝ }
+// The state after a value was put to the message's filter by a sending.
+pub fn offered_state(g: Message, s: MessageState, value: i64) -> MessageState
+    ensures { λ r. ⌜ r ≡ offered g s value ⌝ }
 {
-    let mut h = g;
-    h.old = value;
-    if filter::passes(g.filter, g.sign, g.x1, g.x2, value, g.old) {
-        h.valid = 1;
-        h.held = value;
-        return h;
+    let pattern = packing::pattern_of(value);
+    let old = packing::value_of(s.old, 32, g.sign == 1);
+    let mut t = s;
+    t.old = pattern;
+    if filter::passes(g.filter, g.sign, g.x1, g.x2, value, old) {
+        t.valid = 1;
+        t.held = pattern;
+        return t;
     }
-    h.valid = 0;
-    h
+    t.valid = 0;
+    t
 }
 
-pub fn invalidated_message(g: Message) -> Message
-    ensures { λ r. ⌜ r ≡ invalidated g ⌝ }
+pub fn invalidated_state(s: MessageState) -> MessageState
+    ensures { λ r. ⌜ r ≡ invalidated s ⌝ }
 {
-    let mut h = g;
-    h.valid = 0;
-    h
+    let mut t = s;
+    t.valid = 0;
+    t
 }
 
-pub fn with_status(g: Message, status: u8) -> Message
-    ensures { λ r. ⌜ r ≡ withStatus g status ⌝ }
+pub fn with_status(s: MessageState, status: u8) -> MessageState
+    ensures { λ r. ⌜ r ≡ withStatus status s ⌝ }
 {
-    let mut h = g;
-    h.status = status;
-    h
+    let mut t = s;
+    t.status = status;
+    t
 }
 
-// The message after an agreed value was put to its filter.
-fn filtered_message(g: Message, agreed: i64) -> Message
-    ensures { λ r. ⌜ r ≡ filtered g agreed ⌝ }
+// The state after an agreed value was put to the message's filter by a closing.
+fn filtered_state(g: Message, s: MessageState, agreed: i64) -> MessageState
+    ensures { λ r. ⌜ r ≡ filtered g s agreed ⌝ }
 {
-    let mut h = g;
-    h.old = agreed;
-    if filter::passes(g.filter, g.sign, g.x1, g.x2, agreed, g.old) {
-        h.status = 0;
-        h.held = agreed;
-        return h;
+    let pattern = packing::pattern_of(agreed);
+    let old = packing::value_of(s.old, 32, g.sign == 1);
+    let mut t = s;
+    t.old = pattern;
+    if filter::passes(g.filter, g.sign, g.x1, g.x2, agreed, old) {
+        t.status = 0;
+        t.held = pattern;
+        return t;
     }
-    h.status = 21;
-    h
+    t.status = 21;
+    t
 }
 
 // What the counting instances agree on.
@@ -82,20 +88,22 @@ pub fn agree_by(g: Message, instances: &[i64]) -> Agreed
     agreement::agree(g.agreement, instances)
 }
 
-pub fn agreed_message(g: Message, agreed: Agreed) -> Message
-    ensures { λ r. ⌜ r ≡ agreedOn g agreed ⌝ }
+pub fn agreed_state(g: Message, s: MessageState, agreed: Agreed) -> MessageState
+    ensures { λ r. ⌜ r ≡ agreedOn g s agreed ⌝ }
 {
     match agreed {
-        Agreed::NoResult => with_status(g, 20),
-        Agreed::Value(v) => filtered_message(g, v),
+        Agreed::NoResult => with_status(s, 20),
+        Agreed::Value(v) => filtered_state(g, s, v),
     }
 }
 
 // ---- a field
 
-fn stage_after(change: Change, stage: Stage) -> Stage
-    ensures { λ r. ⌜ r ≡ stageAfter change stage ⌝ }
+// The stage that a field moves on to.
+pub fn stage_after(change: Change, x: Field) -> Stage
+    ensures { λ r. ⌜ r ≡ stageAfter change (x .stage) ⌝ }
 {
+    let stage = x.stage;
     match change {
         Change::Send => match stage {
             Stage::Waiting => Stage::Waiting,
@@ -115,23 +123,10 @@ fn stage_after(change: Change, stage: Stage) -> Stage
     }
 }
 
-pub fn moved_field(change: Change, x: Field) -> Field
-    ensures { λ r. ⌜ r ≡ staged (stageAfter change (x .stage)) x ⌝ }
+pub fn is_gone(x: Field) -> bool
+    ensures { λ r. ⌜ r ≡ isGone (x .stage) ⌝ }
 {
     let stage = x.stage;
-    Field {
-        message: x.message,
-        frame: x.frame,
-        start: x.start,
-        status: x.status,
-        place: x.place,
-        stage: stage_after(change, stage),
-    }
-}
-
-pub fn stage_gone(stage: Stage) -> bool
-    ensures { λ r. ⌜ r ≡ isGone stage ⌝ }
-{
     match stage {
         Stage::Waiting => false,
         Stage::Loaded => false,
@@ -140,18 +135,12 @@ pub fn stage_gone(stage: Stage) -> bool
 }
 
 // A field's value and, if present, its status bit.
-pub fn write_field(buffer: &mut [u8], h: Head, g: Message, x: Field)
-    ensures { λ _. ⌜ now (buffer .exit) ≡ writes h g x (now (buffer .entry)) ⌝ }
+pub fn write_field(buffer: &mut [u8], h: Frame, g: Message, s: MessageState, x: record::Field)
+    ensures { λ _. ⌜ now (buffer .exit) ≡ writes h g s x (now (buffer .entry)) ⌝ }
 {
     let big = h.order == 1;
-    packing::pack(
-        &mut *buffer,
-        big,
-        x.start,
-        g.width,
-        packing::pattern_of(g.held),
-    );
+    packing::pack(&mut *buffer, big, x.start, g.width, s.held);
     if x.status == 1 {
-        packing::pack(buffer, big, x.place, 1, !(g.valid == 0) as u32);
+        packing::pack(buffer, big, x.place, 1, !(s.valid == 0) as u32);
     }
 }

@@ -3,7 +3,7 @@ ghost use mathlib.Core.Path.{_≡_};
 ghost use mathlib.Core.Bool.{not};
 ghost use lib.Dec.{eqb};
 ghost use lib.ListN.{length};
-ghost use Rattle.store.specs.Node.{nodeOf};
+ghost use Rattle.store.specs.Node.{layoutOf, nodeOf};
 ghost use Rattle.node.specs.Calls.{
   left,
   outcome,
@@ -22,7 +22,7 @@ ghost use Rattle.node.specs.Closing.{closeOf};
 ghost use Rattle.node.specs.Load.{loadOf};
 
 // MONDGURT_NODE bytes.
-type Node = [u8; 2787];
+type Node = [u8; 2979];
 
 #[no_mangle]
 pub extern "C" fn mondgurt_load(node: &mut Node, file: &[u8]) -> u32
@@ -61,7 +61,7 @@ pub extern "C" fn mondgurt_consumed(node: &mut Node, frame: u64) -> u8
 
 #[no_mangle]
 pub extern "C" fn mondgurt_read_flag(node: &Node, message: u64, flag: &mut u8) -> u8
-    ensures { λ r. ⌜ (r ≡ flagAnswer (nodeOf (now (node .entry))) message) × (now (flag .exit) ≡ flagPlace (nodeOf (now (node .entry))) message (now (flag .entry))) ⌝ }
+    ensures { λ r. ⌜ (r ≡ flagAnswer (layoutOf (now (node .entry))) message) × (now (flag .exit) ≡ flagPlace (nodeOf (now (node .entry))) message (now (flag .entry))) ⌝ }
 {
     node::read_flag(node, message, flag)
 }

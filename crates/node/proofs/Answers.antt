@@ -7,7 +7,7 @@ use native.Mathlib.Omega.{arith}
 use lib.Dec.{ltb, eqb}
 use lib.IntN.{ℤ}
 use borrow.Author.Tests.{ltb-true, eqb-true, not-false}
-use Rattle.store.specs.Node.{Node, frameCount, messageCount, isSent, hasStatusBit, isSentFrame, frameAt, messageAt}
+use Rattle.store.specs.Node.{Layout, Node, frameCount, messageCount, isSent, hasStatusBit, isSentFrame, frameAt, messageAt}
 use Rattle.message.specs.Messages.{canHold}
 use Rattle.node.specs.Calls.{sendAnswer, invalidateAnswer, assembleAnswer, deliverAnswer, receiveAnswer}
 
@@ -26,50 +26,51 @@ known i number k r e =
 pub in-memory : (i number k r : ℕ) → cond (not (ltb i (min number 32))) (suc k) r ≡ 0 → i < 32
 in-memory i number k r e = omega (arith, known i number k r e)
 
-module _ (n : Node) where
-  pub send-tests : (m : ℕ) (v : ℤ) → sendAnswer n m v ≡ 0
-      → (m < n .message-number) × (canHold (messageAt n m) v ≡ true)
+module _ (l : Layout) where
+  pub send-tests : (m : ℕ) (v : ℤ) → sendAnswer l m v ≡ 0
+      → (m < l .message-number) × (canHold (messageAt l m) v ≡ true)
   unfolding sendAnswer
   send-tests m v e =
-      let number = known m (n .message-number) _ _ e in
-      let access = passed (not (isSent (messageAt n m))) _ _ (number .1) in
-      let value = passed (not (canHold (messageAt n m) v)) _ _ (access .1) in
+      let number = known m (l .message-number) _ _ e in
+      let access = passed (not (isSent (messageAt l m))) _ _ (number .1) in
+      let value = passed (not (canHold (messageAt l m) v)) _ _ (access .1) in
       (omega arith, not-false _ (value .0))
 
-  pub send-access : (m : ℕ) (v : ℤ) → sendAnswer n m v ≡ 0 → isSent (messageAt n m) ≡ true
+  pub send-access : (m : ℕ) (v : ℤ) → sendAnswer l m v ≡ 0 → isSent (messageAt l m) ≡ true
   unfolding sendAnswer
-  send-access m v e = not-false _ (passed (not (isSent (messageAt n m))) _ _ (known m (n .message-number) _ _ e .1) .0)
+  send-access m v e = not-false _ (passed (not (isSent (messageAt l m))) _ _ (known m (l .message-number) _ _ e .1) .0)
 
-  pub invalidate-tests : (m : ℕ) → invalidateAnswer n m ≡ 0 → m < n .message-number
+  pub invalidate-tests : (m : ℕ) → invalidateAnswer l m ≡ 0 → m < l .message-number
   unfolding invalidateAnswer
-  invalidate-tests m e = omega (arith, known m (n .message-number) _ _ e)
+  invalidate-tests m e = omega (arith, known m (l .message-number) _ _ e)
 
-  pub invalidate-status : (m : ℕ) → invalidateAnswer n m ≡ 0 → hasStatusBit (messageAt n m) ≡ true
+  pub invalidate-status : (m : ℕ) → invalidateAnswer l m ≡ 0 → hasStatusBit (messageAt l m) ≡ true
   unfolding invalidateAnswer
   invalidate-status m e =
-      let access = passed (not (isSent (messageAt n m))) _ _ (known m (n .message-number) _ _ e .1) in
-      not-false _ (passed (not (hasStatusBit (messageAt n m))) _ _ (access .1) .0)
+      let access = passed (not (isSent (messageAt l m))) _ _ (known m (l .message-number) _ _ e .1) in
+      not-false _ (passed (not (hasStatusBit (messageAt l m))) _ _ (access .1) .0)
 
-  pub assemble-tests : (f size : ℕ) → assembleAnswer n f size ≡ 0 → size ≡ frameAt n f .head .length
-  unfolding assembleAnswer
-  assemble-tests f size e =
-      let number = known f (n .frame-number) _ _ e in
-      let access = passed (not (isSentFrame (frameAt n f .head))) _ _ (number .1) in
-      let value = passed (not (eqb size (frameAt n f .head .length))) _ _ (access .1) in
-      eqb-true size (frameAt n f .head .length) (not-false _ (value .0))
-
-  pub assemble-access : (f size : ℕ) → assembleAnswer n f size ≡ 0 → isSentFrame (frameAt n f .head) ≡ true
-  unfolding assembleAnswer
-  assemble-access f size e = not-false _ (passed (not (isSentFrame (frameAt n f .head))) _ _ (known f (n .frame-number) _ _ e .1) .0)
-
-  pub deliver-tests : (f size : ℕ) → deliverAnswer n f size ≡ 0 → (f < frameCount n) × (size ≡ frameAt n f .head .length)
+  pub deliver-tests : (f size : ℕ) → deliverAnswer l f size ≡ 0 → (f < frameCount l) × (size ≡ frameAt l f .length)
   unfolding deliverAnswer
   deliver-tests f size e =
-      let number = known f (n .frame-number) _ _ e in
-      let access = passed (isSentFrame (frameAt n f .head)) _ _ (number .1) in
-      let value = passed (not (eqb size (frameAt n f .head .length))) _ _ (access .1) in
-      (number .0, eqb-true size (frameAt n f .head .length) (not-false _ (value .0)))
+      let number = known f (l .frame-number) _ _ e in
+      let access = passed (isSentFrame (frameAt l f)) _ _ (number .1) in
+      let value = passed (not (eqb size (frameAt l f .length))) _ _ (access .1) in
+      (number .0, eqb-true size (frameAt l f .length) (not-false _ (value .0)))
 
-  pub receive-tests : (m : ℕ) → receiveAnswer n m ≡ 0 → m < messageCount n
+module _ (n : Node) where
+  pub assemble-tests : (f size : ℕ) → assembleAnswer n f size ≡ 0 → size ≡ frameAt (n .layout) f .length
+  unfolding assembleAnswer
+  assemble-tests f size e =
+      let number = known f (n .layout .frame-number) _ _ e in
+      let access = passed (not (isSentFrame (frameAt (n .layout) f))) _ _ (number .1) in
+      let value = passed (not (eqb size (frameAt (n .layout) f .length))) _ _ (access .1) in
+      eqb-true size (frameAt (n .layout) f .length) (not-false _ (value .0))
+
+  pub assemble-access : (f size : ℕ) → assembleAnswer n f size ≡ 0 → isSentFrame (frameAt (n .layout) f) ≡ true
+  unfolding assembleAnswer
+  assemble-access f size e = not-false _ (passed (not (isSentFrame (frameAt (n .layout) f))) _ _ (known f (n .layout .frame-number) _ _ e .1) .0)
+
+  pub receive-tests : (m : ℕ) → receiveAnswer n m ≡ 0 → m < messageCount (n .layout)
   unfolding receiveAnswer
-  receive-tests m e = known m (n .message-number) _ _ e .0
+  receive-tests m e = known m (n .layout .message-number) _ _ e .0

@@ -1,4 +1,4 @@
--- What a closing leaves of each message and of each frame of a sound node.
+-- What a closing leaves of the state of each message, and of the delivery of each frame, of a sound node.
 -- Assumes nothing.
 use mathlib.Core.Path.{_≡_, sym, _∙_}
 use mathlib.Core.Bool.{true, false, cond}
@@ -8,29 +8,30 @@ use native.Mathlib.Omega.{arith}
 use lib.Dec.{ltb}
 use lib.ListN.{length, List·getD-eq-default}
 use borrow.Author.Tests.{lt-ltb, le-ltb}
-use Rattle.store.specs.Node.{Node, frameCount, messageCount, noFrame, noMessage, frameAt, messageAt, undelivered}
-use Rattle.node.specs.Closing.{closedMessage, isReceived, closeMessages, forget, closeOf}
+use Rattle.store.specs.Node.{Node, frameCount, messageCount, noDelivery, noState, deliveryAt, stateAt}
+use Rattle.node.specs.Closing.{closedState, isReceived, closeMessages, forget, closeOf}
 use Rattle.node.specs.Sound.{Sound}
 use Rattle.node.proofs.Lists.{changed-length, changed-at}
 
 module _ {n : Node} (s : Sound n) where
   -- a received message is closed, and any other stays
-  pub message-closed : (m : ℕ)
-      → messageAt (closeOf n) m ≡ cond (isReceived n m (messageAt n m)) (closedMessage n m (messageAt n m)) (messageAt n m)
+  pub state-closed : (m : ℕ)
+      → stateAt (closeOf n) m ≡ cond (isReceived (n .layout) m) (closedState n m (stateAt (n .state) m)) (stateAt (n .state) m)
   unfolding closeOf forget closeMessages isReceived
-  message-closed m = go (decLt m (length (n .messages)))
+  state-closed m = go (decLt m (length (n .state .messages)))
     where
-      go : Dec (m < length (n .messages))
-          → messageAt (closeOf n) m ≡ cond (isReceived n m (messageAt n m)) (closedMessage n m (messageAt n m)) (messageAt n m)
-      go (yes l) = changed-at (isReceived n) (closedMessage n) (n .messages) m noMessage l
+      go : Dec (m < length (n .state .messages))
+          → stateAt (closeOf n) m ≡ cond (isReceived (n .layout) m) (closedState n m (stateAt (n .state) m)) (stateAt (n .state) m)
+      go (yes l) = changed-at (isReceived (n .layout)) (closedState n) (n .state .messages) m noState l
       go (no l) =
-          let past : ltb m (messageCount n) ≡ false = le-ltb m (messageCount n) (omega arith) in
-          let end : length (closeOf n .messages) ≤ m = rw (changed-length (isReceived n) (closedMessage n) 0 (n .messages)) (omega arith) in
-          rw past (List·getD-eq-default (closeOf n .messages) noMessage end ∙ sym (List·getD-eq-default (n .messages) noMessage (omega arith)))
+          let past : ltb m (messageCount (n .layout)) ≡ false = le-ltb m (messageCount (n .layout)) (omega arith) in
+          let end : length (closeOf n .messages) ≤ m =
+          rw (changed-length (isReceived (n .layout)) (closedState n) 0 (n .state .messages)) (omega arith) in
+          rw past (List·getD-eq-default (closeOf n .messages) noState end ∙ sym (List·getD-eq-default (n .state .messages) noState (omega arith)))
 
   -- the delivery of a frame is forgotten
-  pub frame-closed : (f : ℕ) → f < n .frame-number → frameAt (closeOf n) f ≡ undelivered (frameAt n f)
+  pub delivery-closed : (f : ℕ) → f < n .layout .frame-number → deliveryAt (closeOf n) f ≡ noDelivery
   unfolding closeOf forget closeMessages
-  frame-closed f l =
-      let known : ltb f (frameCount n) ≡ true = lt-ltb f (frameCount n) (omega arith) in
-      rw known at (changed-at (λ i h. ltb i (frameCount n)) (λ i h. undelivered h) (n .frames) f noFrame (omega arith))
+  delivery-closed f l =
+      let known : ltb f (frameCount (n .layout)) ≡ true = lt-ltb f (frameCount (n .layout)) (omega arith) in
+      rw known at (changed-at (λ i. ltb i (frameCount (n .layout))) (λ i y. noDelivery) (n .state .deliveries) f noDelivery (omega arith))

@@ -1,17 +1,20 @@
--- The laws of `changed` and `chosen`, by induction on the list. Of `changed`, and of `set`: a relation that holds between each of the first k
--- elements and itself, and between each that is replaced and its replacement, holds between the elements before and after. Of `chosen`: what holds
--- of each element that passes the test holds of all that are chosen, and they keep their order: one of them has before it those chosen before.
+-- The laws of `changed`, `chosen`, `isIn` and `table`, by induction on the list. Of `changed`: each element is as the test of its number says. Of
+-- `chosen`: what holds of each element that passes the test holds of all that are chosen, and a number is chosen exactly if it was there and passes.
+-- What holds of each number that is in a list holds of all its elements.
 -- Assumes nothing.
-use mathlib.Core.Path.{_≡_, refl, ap}
-use mathlib.Core.Bool.{Bool, true, false, cond}
-use mathlib.Core.List.{List, [], _∷_, _++_}
-use Prim.Native.Nat.{ℕ, zero, suc, _+_, _-_, _<_, _≤_, max}
+use mathlib.Core.Path.{_≡_, refl, ap, sym, _∙_}
+use mathlib.Core.Bool.{Bool, true, false, cond, _&&_, _||_, and-false, and-eq-true-iff, true≢false}
+use mathlib.Core.List.{List, [], _∷_, map}
+use mathlib.Core.Logic.{_↔_}
+use Prim.Native.Nat.{ℕ, zero, suc, _+_, _<_, _≤_}
 use native.Mathlib.Decide.{ℕ-discrete}
 use native.Mathlib.Nat.{add-zero}
 use native.Mathlib.Omega.{arith}
-use lib.ListN.{length, getD, set, take, drop, length-set, length-drop}
-use lib.Seq.{getD-set-same, getD-set-other, getD-drop}
-use Rattle.node.specs.Own.{chosen, changed}
+use lib.Dec.{eqb}
+use lib.ListN.{length, getD}
+use borrow.Author.Tests.{eqb-true, eq-eqb}
+use Rattle.store.specs.Start.{table}
+use Rattle.node.specs.Own.{chosen, changed, isIn}
 
 -- a choice by a test has a property that both its sides have
 pub by-test : {A : Type 0} (P : A → Type 0) (t : Bool) {a b : A} → (t ≡ true → P a) → (t ≡ false → P b) → P (cond t a b)
@@ -26,14 +29,14 @@ same-test R false one other = other refl
 
 -- ---- the elements after a change
 
-module _ {A : Type 0} (p : ℕ → A → Bool) (g : ℕ → A → A) where
+module _ {A : Type 0} (p : ℕ → Bool) (g : ℕ → A → A) where
   pub changed-length : (i : ℕ) (l : List A) → length (changed p g i l) ≡ length l
   unfolding changed
   changed-length i [] = refl
   changed-length i (x ∷ l) = ap suc (changed-length (suc i) l)
 
   changed-from : (i : ℕ) (l : List A) (j : ℕ) (d : A) → j < length l
-      → getD (changed p g i l) j d ≡ cond (p (i + j) (getD l j d)) (g (i + j) (getD l j d)) (getD l j d)
+      → getD (changed p g i l) j d ≡ cond (p (i + j)) (g (i + j) (getD l j d)) (getD l j d)
   unfolding changed
   changed-from i [] j d h = absurd (omega arith)
   changed-from i (x ∷ l) zero d h = rw add-zero
@@ -42,81 +45,96 @@ module _ {A : Type 0} (p : ℕ → A → Bool) (g : ℕ → A → A) where
       rw number at (changed-from (suc i) l j d (omega arith))
 
   pub changed-at : (l : List A) (j : ℕ) (d : A) → j < length l
-      → getD (changed p g 0 l) j d ≡ cond (p j (getD l j d)) (g j (getD l j d)) (getD l j d)
+      → getD (changed p g 0 l) j d ≡ cond (p j) (g j (getD l j d)) (getD l j d)
   changed-at l j d h = let number : 0 + j ≡ j = omega arith in rw number at (changed-from 0 l j d h)
 
--- ---- the first k elements of a list before and after
-
-module _ {A : Type 0} (R : A → A → Type 0) (d : A) (k : ℕ) where
-  pub record Step (before after : List A) : Type 0 where
-    pub size : length after ≡ length before
-    pub each : (j : ℕ) → j < k → R (getD before j d) (getD after j d)
-
-  module _ (l : List A) (room : k ≤ length l) (stays : (j : ℕ) → j < k → R (getD l j d) (getD l j d)) where
-    pub one-replaced : (i : ℕ) (a : A) → R (getD l i d) a → Step l (set l i a)
-    one-replaced i a new = record { size = length-set l i a; each = λ j h. go j h (ℕ-discrete j i) }
-      where
-        go : (j : ℕ) → j < k → Dec (j ≡ i) → R (getD l j d) (getD (set l i a) j d)
-        go j h (yes e) = let within : i < length l = omega arith in rw (e, getD-set-same l i a d) new
-        go j h (no n) = rw (getD-set-other l i j a d n) (stays j h)
-
-    pub some-replaced : (p : ℕ → A → Bool) (g : ℕ → A → A)
-        → ((j : ℕ) → j < k → p j (getD l j d) ≡ true → R (getD l j d) (g j (getD l j d))) → Step l (changed p g 0 l)
-    some-replaced p g new = record { size = changed-length p g 0 l; each = each-after }
-      where
-        each-after : (j : ℕ) → j < k → R (getD l j d) (getD (changed p g 0 l) j d)
-        each-after j h = rw (changed-at p g l j d (omega arith)) (by-test (R (getD l j d)) (p j (getD l j d)) (new j h) (λ t. stays j h))
-
--- ---- the elements that are chosen
+-- ---- what holds of each element
 
 abbrev pub Every : {A : Type 0} → (A → Type 0) → List A → Type 0
 Every P [] = Unit {0}
 Every P (x ∷ l) = P x × Every P l
 
-module _ {A : Type 0} (p : ℕ → A → Bool) (d : A) where
-  -- each has a number that passes the test
-  chosen-each-from : (P : A → Type 0) (i : ℕ) (l : List A) → ((j : ℕ) → j < length l → p (i + j) (getD l j d) ≡ true → P (getD l j d))
-      → Every P (chosen p i l)
-  unfolding chosen
-  chosen-each-from P i [] h = tt
-  chosen-each-from P i (x ∷ l) h =
-      let number : (j : ℕ) → suc i + j ≡ i + suc j = λ j. omega arith in
-      let later = chosen-each-from P (suc i) l (λ j k t. h (suc j) (omega arith) (rw number at t)) in
-      by-test (Every P) (p i x) (λ t. (h 0 (omega arith) (rw add-zero t), later)) (λ t. later)
+pub every-more : {A : Type 0} (P Q : A → Type 0) → ((x : A) → P x → Q x) → (l : List A) → Every P l → Every Q l
+every-more P Q f [] h = tt
+every-more P Q f (x ∷ l) h = (f x (h .0), every-more P Q f l (h .1))
 
-  pub chosen-each : (P : A → Type 0) (k : ℕ) (l : List A) → ((j : ℕ) → k ≤ j → j < length l → p j (getD l j d) ≡ true → P (getD l j d))
-      → Every P (chosen p k (drop k l))
-  chosen-each P k l h = chosen-each-from P k (drop k l) each
-    where
-      each : (j : ℕ) → j < length (drop k l) → p (k + j) (getD (drop k l) j d) ≡ true → P (getD (drop k l) j d)
-      each j m t = rw getD-drop (h (k + j) (omega arith) (omega (arith, length-drop k l)) (rw getD-drop at t))
-
-  -- those before one that passes, that one, and those after it, in this order
-  chosen-split-from : (i : ℕ) (l : List A) (j : ℕ) → j < length l → p (i + j) (getD l j d) ≡ true
-      → chosen p i l ≡ chosen p i (take j l) ++ getD l j d ∷ chosen p (suc (i + j)) (drop (suc j) l)
-  unfolding chosen
-  chosen-split-from i [] j h t = absurd (omega arith)
-  chosen-split-from i (x ∷ l) zero h t = let passes : p i x ≡ true = rw add-zero at t in rw (add-zero, passes) refl
-  chosen-split-from i (x ∷ l) (suc j) h t =
-      let number : suc i + j ≡ i + suc j = omega arith in
-      either (p i x) (chosen p (suc i) (take j l)) _ (rw number at (chosen-split-from (suc i) l j (omega arith) (rw number t)))
-    where
-      either : (b : Bool) (before after : List A) {all : List A} → all ≡ before ++ after → cond b (x ∷ all) all ≡ cond b (x ∷ before) before ++ after
-      either true before after e = ap (λ (c : List A). x ∷ c) e
-      either false before after e = e
-
-  pub chosen-split : (l : List A) (j : ℕ) → j < length l → p j (getD l j d) ≡ true
-      → chosen p 0 l ≡ chosen p 0 (take j l) ++ getD l j d ∷ chosen p (suc j) (drop (suc j) l)
-  chosen-split l j h t = let number : 0 + j ≡ j = omega arith in rw number at (chosen-split-from 0 l j h (rw number t))
-
--- of elements that all stand in a stretch of n places, no more than n are chosen
-pub chosen-few : {A : Type 0} (p : ℕ → A → Bool) (lo n : ℕ) → ((j : ℕ) (x : A) → p j x ≡ true → (lo ≤ j) × (j < lo + n)) → (i : ℕ) (l : List A)
-    → length (chosen p i l) ≤ lo + n - max lo i
+pub chosen-each : {A : Type 0} (p : A → Bool) (P : A → Type 0) (l : List A) → Every (λ x. p x ≡ true → P x) l → Every P (chosen p l)
 unfolding chosen
-chosen-few p lo n inside i [] = omega arith
-chosen-few {A} p lo n inside i (x ∷ l) = go (p i x) refl (chosen-few p lo n inside (suc i) l)
+chosen-each p P [] h = tt
+chosen-each p P (x ∷ l) h =
+    let later = chosen-each p P l (h .1) in
+    by-test (Every P) (p x) (λ t. (h .0 t, later)) (λ t. later)
+
+pub every-map : {A B : Type 0} (f : A → B) (P : B → Type 0) (l : List A) → Every (λ x. P (f x)) l → Every P (map f l)
+every-map f P [] h = tt
+every-map f P (x ∷ l) h = (h .0, every-map f P l (h .1))
+
+-- no more are chosen than there are
+pub chosen-few : {A : Type 0} (p : A → Bool) (l : List A) → length (chosen p l) ≤ length l
+unfolding chosen
+chosen-few p [] = omega arith
+chosen-few {A} p (x ∷ l) =
+    let later = chosen-few p l in
+    by-test (λ (c : List A). length c ≤ suc (length l)) (p x) (λ t. omega arith) (λ t. omega arith)
+
+-- ---- the numbers in a list
+
+-- the first, or one of the others
+pub in-cases : {P : Type 0} (d e : ℕ) (l : List ℕ) → isIn d (e ∷ l) ≡ true → (d ≡ e → P) → (isIn d l ≡ true → P) → P
+unfolding isIn
+in-cases {P} d e l t first later = go (eqb d e) refl t
   where
-    go : (t : Bool) → p i x ≡ t → length (chosen p (suc i) l) ≤ lo + n - max lo (suc i)
-        → length (cond t (x ∷ chosen p (suc i) l) (chosen p (suc i) l)) ≤ lo + n - max lo i
-    go true e h = omega (arith, inside i x e)
-    go false e h = omega arith
+    go : (b : Bool) → eqb d e ≡ b → (b || isIn d l) ≡ true → P
+    go true u v = first (eqb-true d e u)
+    go false u v = later v
+
+pub every-in : (P : ℕ → Type 0) (l : List ℕ) (d : ℕ) → Every P l → isIn d l ≡ true → P d
+unfolding isIn
+every-in P [] d h t = absurd (true≢false (sym t))
+every-in P (e ∷ l) d h t = in-cases d e l t (λ u. rw u (h .0)) (every-in P l d (h .1))
+
+or-right : (a : Bool) {b : Bool} → b ≡ true → (a || b) ≡ true
+or-right true t = refl
+or-right false t = t
+
+pub every-number : (P : ℕ → Type 0) (l : List ℕ) → ((d : ℕ) → isIn d l ≡ true → P d) → Every P l
+unfolding isIn
+every-number P [] h = tt
+every-number P (e ∷ l) h = (h e (rw (eq-eqb e e refl) refl), every-number P l (λ d t. h d (or-right (eqb d e) t)))
+
+chosen-test : (p : ℕ → Bool) (d : ℕ) (l : List ℕ) → isIn d (chosen p l) ≡ (isIn d l && p d)
+unfolding isIn chosen
+chosen-test p d [] = refl
+chosen-test p d (e ∷ l) = go (eqb d e) (p e) refl refl (chosen-test p d l)
+  where
+    go : (a b : Bool) → eqb d e ≡ a → p e ≡ b → isIn d (chosen p l) ≡ (isIn d l && p d)
+        → isIn d (cond b (e ∷ chosen p l) (chosen p l)) ≡ ((a || isIn d l) && p d)
+    go true true u v later = rw (u, eqb-true d e u, v) refl
+    go true false u v later = let fails : p d ≡ false = ap p (eqb-true d e u) ∙ v in later ∙ rw fails (and-false (isIn d l))
+    go false true u v later = rw u later
+    go false false u v later = later
+
+pub in-chosen : (p : ℕ → Bool) (d : ℕ) (l : List ℕ) → (isIn d (chosen p l) ≡ true) ↔ ((isIn d l ≡ true) × (p d ≡ true))
+in-chosen p d l = rw (chosen-test p d l) (and-eq-true-iff (isIn d l) (p d))
+
+-- ---- the numbers in a table
+
+module _ (f : ℕ → ℕ) (d : ℕ) where
+  found : (i k : ℕ) → isIn d (table f i k) ≡ true → (j : ℕ) × (i ≤ j) × (j < i + k) × (f j ≡ d)
+  unfolding isIn table
+  found i zero t = absurd (true≢false (sym t))
+  found i (suc k) t =
+      in-cases d (f i) (table f (suc i) k) t (λ u. (i, omega arith, omega arith, sym u))
+      (λ v. let (j, from, to, e) = found (suc i) k v in (j, omega arith, omega arith, e))
+
+  there : (i k j : ℕ) → i ≤ j → j < i + k → f j ≡ d → isIn d (table f i k) ≡ true
+  unfolding isIn table
+  there i zero j from to e = absurd (omega arith)
+  there i (suc k) j from to e = go (ℕ-discrete i j) (λ h. there (suc i) k j h (omega arith) e)
+    where
+      go : Dec (i ≡ j) → (suc i ≤ j → isIn d (table f (suc i) k) ≡ true) → (eqb d (f i) || isIn d (table f (suc i) k)) ≡ true
+      go (yes h) later = rw (eq-eqb d (f i) (sym e ∙ ap f (sym h))) refl
+      go (no h) later = or-right (eqb d (f i)) (later (omega arith))
+
+  pub in-table : (i k : ℕ) → (isIn d (table f i k) ≡ true) ↔ ((j : ℕ) × (i ≤ j) × (j < i + k) × (f j ≡ d))
+  in-table i k = (found i k, λ h. there i k (h .0) (h .1) (h .2) (h .3))

@@ -1,194 +1,240 @@
--- What assembling and receiving mean on a sound node. Assembling writes one field of the frame after the other, and no two share a bit, so that
--- what a field wrote stands there in the end: its message's held value and its validity. A bit that no field of the frame uses stays. And a
--- received message answers one of the four statuses.
+-- What assembling and receiving mean on a sound node. Assembling writes one field of the frame after the other. A field that is written later is the
+-- same one again, or shares no bit with it, so that what a field wrote stands there in the end: its message's held value and its validity. A bit that
+-- no field of the frame uses stays. And a received message answers one of the four statuses.
 -- Assumes nothing.
 use mathlib.Core.Path.{_≡_, refl, sym, ap, _∙_}
-use mathlib.Core.Bool.{Bool, true, false, cond}
-use mathlib.Core.List.{List, [], _∷_, _++_}
-use Prim.Native.Nat.{ℕ, suc, _%_, _<_, _≤_}
+use mathlib.Core.Bool.{Bool, true, false, cond, true≢false}
+use mathlib.Core.List.{List, [], _∷_, map}
+use Prim.Native.Nat.{ℕ, _%_, _^_, _<_, _≤_}
+use native.Mathlib.Decide.{ℕ-discrete, decLt}
 use native.Mathlib.Omega.{arith}
 use lib.Dec.{eqb}
-use lib.ListN.{length, take, drop}
+use lib.ListN.{length}
 use borrow.Author.Tests.{lt-ltb, eqb-true}
-use Rattle.packing.specs.Places.{bitAt, placesIn, packed, unpacked, Apart as NoneOf, Disjoint}
-use Rattle.packing.specs.Values.{inRange, valueOf, patternOf}
+use Rattle.packing.specs.Places.{bitAt, inFrame, placesIn, packed, unpacked, Apart as NoneOf, Disjoint}
+use Rattle.packing.specs.Values.{valueOf}
 use Rattle.packing.proofs.Frame.{packed-length, unpacked-other, round-trip, agree}
-use Rattle.packing.proofs.Places.{placesIn-places, placesIn-inside, placesIn-distinct, places-length}
-use Rattle.packing.proofs.Field.{there-and-back}
-use Rattle.store.specs.declared.Field.{Field}
-use Rattle.store.specs.Node.{Node, messageCount, isSigned, isSent, isValid, isBig, frameAt, messageAt, fieldAt, noField}
+use Rattle.packing.proofs.Places.{placesIn-places, placesIn-inside, placesIn-distinct, places-length, in-frame-bounds}
+use Rattle.packing.proofs.Values.{pattern-lowest, pattern-value, value-pattern}
+use Rattle.record.specs.declared.Field.{Field as FieldRecord}
+use Rattle.store.specs.declared.Message.{Message}
+use Rattle.store.specs.declared.MessageState.{MessageState}
+use Rattle.store.specs.Node.{Layout, Node, messageCount, isSigned, isSent, isValid, isBig, heldValue, frameAt, messageAt, laidAt, stateAt}
 use Rattle.message.specs.Fields.{statusPlaces, writes}
 use Rattle.message.proofs.Held.{held-in-range}
 use Rattle.node.specs.declared.Owner.{Owner}
-use Rattle.node.specs.Own.{chosen, own, fieldsOf}
+use Rattle.node.specs.Own.{isIn, cellsOf, fieldsOf}
 use Rattle.node.specs.Calls.{assembleAnswer, written, assembled, receiveAnswer}
-use Rattle.node.specs.Sound.{IsStatus, messagePlaces, itsStatusPlaces, SoundField, Apart, Sound}
-use Rattle.node.proofs.Lists.{by-test, Every, chosen-each, chosen-split}
-use Rattle.node.proofs.Owners.{fields-named}
+use Rattle.node.specs.Sound.{IsStatus, messagePlaces, itsStatusPlaces, SoundField, SoundMessageState, Apart, Sound}
+use Rattle.node.proofs.Lists.{by-test, Every, every-number, in-cases}
+use Rattle.node.proofs.Owners.{cell-names, fields-named}
 use Rattle.node.proofs.Answers.{assemble-tests}
 
 -- ---- assembling
 
 -- what a field writes, by the places that it has in its frame
-abbrev put : Node → Field → List ℕ → List ℕ
-put n x b =
-    packed (itsStatusPlaces n x) (cond (isValid (messageAt n (x .message))) 1 0)
-    (packed (messagePlaces n x) (patternOf 32 (messageAt n (x .message) .held)) b)
+module _ (n : Node) (x : FieldRecord) where
+  abbrev itsMessage : Message
+  itsMessage = messageAt (n .layout) (x .message)
 
--- it stands there: the held value, and the validity where it has a status bit
-module _ {n : Node} {d : ℕ} {x : Field} (field : SoundField n d x) (c : List ℕ) (size : length c ≡ frameAt n (x .frame) .head .length) where
-  put-held : inRange (isSigned (messageAt n (x .message))) (messageAt n (x .message) .width) (messageAt n (x .message) .held) ≡ true
-      → valueOf (isSigned (messageAt n (x .message))) (messageAt n (x .message) .width) (unpacked (messagePlaces n x) (put n x c))
-      ≡ messageAt n (x .message) .held
-  put-held r =
-      let g = messageAt n (x .message) in
-      let big = isBig (frameAt n (x .frame) .head) in
-      ap (valueOf (isSigned g) (g .width)) (unpacked-other (messagePlaces n x) (itsStatusPlaces n x) _ _ (field .once))
-      ∙ (rw size at (there-and-back (isSigned g) big (x .start) (g .width) (g .held) c (rw size (field .lies)) r))
+  abbrev itsState : MessageState
+  itsState = stateAt (n .state) (x .message)
 
-  put-status : x .status ≡ 1 → unpacked (itsStatusPlaces n x) (put n x c) ≡ cond (isValid (messageAt n (x .message))) 1 0
+  abbrev put : List ℕ → List ℕ
+  put b = packed (itsStatusPlaces (n .layout) x) (cond (isValid itsState) 1 0) (packed (messagePlaces (n .layout) x) (itsState .held) b)
+
+-- what is written at the places of w bits that lie in the frame is read there
+written-there : (bytes : ℕ) (big : Bool) (start w v : ℕ) (c : List ℕ) → length c ≡ bytes → inFrame bytes start w ≡ true
+    → unpacked (placesIn bytes big start w) (packed (placesIn bytes big start w) v c) ≡ v % 2 ^ w
+written-there bytes big start w v c size lies =
+    let bits : length (placesIn bytes big start w) ≡ w = ap length (placesIn-places bytes big start w lies) ∙ places-length big start w in
+    round-trip (placesIn bytes big start w) v c (rw size (placesIn-inside bytes big start w)) (placesIn-distinct bytes big start w) ∙ rw bits refl
+
+-- so the held pattern's lowest bits stand there, and the validity where it has a status bit
+module _ (n : Node) {d : ℕ} {x : FieldRecord} (field : SoundField (n .layout) d x) (c : List ℕ)
+    (size : length c ≡ frameAt (n .layout) (x .frame) .length) where
+  put-held : unpacked (messagePlaces (n .layout) x) (put n x c) ≡ itsState n x .held % 2 ^ itsMessage n x .width
+  put-held =
+      unpacked-other (messagePlaces (n .layout) x) (itsStatusPlaces (n .layout) x) _ _ (field .once)
+      ∙ written-there (frameAt (n .layout) (x .frame) .length) (isBig (frameAt (n .layout) (x .frame))) (x .start) (itsMessage n x .width)
+      (itsState n x .held) c size (field .lies)
+
+  put-status : x .status ≡ 1 → unpacked (itsStatusPlaces (n .layout) x) (put n x c) ≡ cond (isValid (itsState n x)) 1 0
   unfolding statusPlaces
   put-status t =
-      let bytes = frameAt n (x .frame) .head .length in
-      let big = isBig (frameAt n (x .frame) .head) in
-      let valid : ℕ = cond (isValid (messageAt n (x .message))) 1 0 in
-      let places : itsStatusPlaces n x ≡ placesIn bytes big (x .place) 1 = rw t refl in
-      let one : length (placesIn bytes big (x .place) 1) ≡ 1 =
-      ap length (placesIn-places bytes big (x .place) 1 (field .status-lies t)) ∙ places-length big (x .place) 1 in
+      let bytes = frameAt (n .layout) (x .frame) .length in
+      let big = isBig (frameAt (n .layout) (x .frame)) in
+      let places : itsStatusPlaces (n .layout) x ≡ placesIn bytes big (x .place) 1 = rw t refl in
       rw places
-      (round-trip (placesIn bytes big (x .place) 1) valid _ (rw (packed-length, size) (placesIn-inside bytes big (x .place) 1))
-      (placesIn-distinct bytes big (x .place) 1) ∙ rw one (one-bit (isValid (messageAt n (x .message)))))
+      (written-there bytes big (x .place) 1 (cond (isValid (itsState n x)) 1 0) _ (packed-length (messagePlaces (n .layout) x) _ c ∙ size)
+      (field .status-lies t) ∙ one-bit (isValid (itsState n x)))
     where
-      one-bit : (t : Bool) → cond t 1 0 % 2 ≡ cond t 1 0
+      one-bit : (t : Bool) → cond t 1 0 % 2 ^ 1 ≡ cond t 1 0
       one-bit true = refl
       one-bit false = refl
 
--- a field uses none of the places; and it is one of frame f
-abbrev Unused : Node → List ℕ → Field → Type 0
-Unused n ps x = Disjoint ps (messagePlaces n x) × Disjoint ps (itsStatusPlaces n x)
+-- a pattern's lowest bits have the value that the message holds
+held-value : (g : Message) (t : MessageState) → SoundMessageState g t → g .width ≤ 32
+    → valueOf (isSigned g) (g .width) (t .held % 2 ^ g .width) ≡ heldValue g t
+held-value g t s w =
+    let v = heldValue g t in
+    let low = pattern-lowest 32 (g .width) v w in
+    rw (rw (pattern-value (isSigned g) 32 (t .held) (s .held-word)) at low) (value-pattern (isSigned g) (g .width) v (held-in-range g v (s .held)))
 
-abbrev Clear : Node → ℕ → List ℕ → Field → Type 0
-Clear n f ps x = (x .frame ≡ f) × Unused n ps x
+-- the cells of frame f's fields, and that d is one of them
+abbrev frameCells : Node → ℕ → List ℕ
+frameCells n f = cellsOf (n .layout) (Owner.Frame f)
+
+abbrev InFrame : Node → ℕ → ℕ → Type 0
+InFrame n f d = isIn d (frameCells n f) ≡ true
+
+-- a field uses none of the places
+abbrev Unused : Node → List ℕ → FieldRecord → Type 0
+Unused n ps x = Disjoint ps (messagePlaces (n .layout) x) × Disjoint ps (itsStatusPlaces (n .layout) x)
 
 module _ (n : Node) (f : ℕ) where
-  writes-put : (x : Field) (b : List ℕ) → length b ≡ frameAt n f .head .length → x .frame ≡ f
-      → writes (frameAt n f .head) (messageAt n (x .message)) x b ≡ put n x b
+  abbrev Sized : List ℕ → Type 0
+  Sized b = length b ≡ frameAt (n .layout) f .length
+
+  abbrev after : FieldRecord → List ℕ → List ℕ
+  after x b = writes (frameAt (n .layout) f) (itsMessage n x) (itsState n x) x b
+
+  writes-put : (x : FieldRecord) (b : List ℕ) → Sized b → x .frame ≡ f → after x b ≡ put n x b
   unfolding writes
   writes-put x b size e = rw (e, size) refl
 
-  writes-length : (x : Field) (b : List ℕ) → length (writes (frameAt n f .head) (messageAt n (x .message)) x b) ≡ length b
+  writes-length : (x : FieldRecord) (b : List ℕ) → length (after x b) ≡ length b
   unfolding writes
   writes-length x b = simp packed-length
 
-  written-length : (l : List Field) (b : List ℕ) → length (written n (frameAt n f .head) l b) ≡ length b
+  written-length : (l : List FieldRecord) (b : List ℕ) → length (written n (frameAt (n .layout) f) l b) ≡ length b
   unfolding written
   written-length [] b = refl
   written-length (x ∷ l) b = written-length l _ ∙ writes-length x b
 
-  written-append : (l k : List Field) (b : List ℕ)
-      → written n (frameAt n f .head) (l ++ k) b ≡ written n (frameAt n f .head) k (written n (frameAt n f .head) l b)
-  unfolding written
-  written-append [] k b = refl
-  written-append (x ∷ l) k b = written-append l k _
+  -- pattern v at some places: cells of the frame that leave it there, and one that puts it there
+  module _ (ps : List ℕ) (v : ℕ) where
+    abbrev Keeps : ℕ → Type 0
+    Keeps d = (b : List ℕ) → Sized b → unpacked ps b ≡ v → unpacked ps (after (laidAt (n .layout) d) b) ≡ v
 
-  -- fields that use none of the places leave what stands there
-  written-clear : (ps : List ℕ) (l : List Field) (b : List ℕ) → length b ≡ frameAt n f .head .length → Every (Clear n f ps) l
-      → unpacked ps (written n (frameAt n f .head) l b) ≡ unpacked ps b
-  unfolding written
-  written-clear ps [] b size h = refl
-  written-clear ps (x ∷ l) b size h =
-      let (e, unused) = h .0 in
-      written-clear ps l _ (writes-length x b ∙ size) (h .1)
-      ∙ rw (writes-put x b size e) (unpacked-other ps (itsStatusPlaces n x) _ _ (unused .1) ∙ unpacked-other ps (messagePlaces n x) _ b (unused .0))
+    written-keeps : (k : List ℕ) (b : List ℕ) → Sized b → Every Keeps k → unpacked ps b ≡ v
+        → unpacked ps (written n (frameAt (n .layout) f) (map (laidAt (n .layout)) k) b) ≡ v
+    unfolding written
+    written-keeps [] b size each e = e
+    written-keeps (d ∷ k) b size each e =
+        written-keeps k _ (writes-length (laidAt (n .layout) d) b ∙ size) (each .1) (each .0 b size e)
 
-  -- what stands in the end at places that no field after x uses: what x wrote over what the fields before it left
-  written-last : (ps : List ℕ) (l : List Field) (x : Field) (k : List Field) (b : List ℕ) → length b ≡ frameAt n f .head .length → x .frame ≡ f
-      → Every (Clear n f ps) k
-      → unpacked ps (written n (frameAt n f .head) (l ++ x ∷ k) b) ≡ unpacked ps (put n x (written n (frameAt n f .head) l b))
-  unfolding written
-  written-last ps l x k b size e h =
-      let c = written n (frameAt n f .head) l b in
-      let same : length c ≡ frameAt n f .head .length = written-length l b ∙ size in
-      rw (written-append l (x ∷ k) b)
-      (written-clear ps k _ (writes-length x c ∙ same) h ∙ ap (unpacked ps) (writes-put x c same e))
+    written-makes : (d : ℕ) → ((b : List ℕ) → Sized b → unpacked ps (after (laidAt (n .layout) d) b) ≡ v) → (k : List ℕ) (b : List ℕ) → Sized b
+        → Every Keeps k → isIn d k ≡ true → unpacked ps (written n (frameAt (n .layout) f) (map (laidAt (n .layout)) k) b) ≡ v
+    unfolding written isIn
+    written-makes d makes [] b size each t = absurd (true≢false (sym t))
+    written-makes d makes (e ∷ k) b size each t =
+        let next : Sized (after (laidAt (n .layout) e) b) = writes-length (laidAt (n .layout) e) b ∙ size in
+        in-cases d e k t (λ u. written-keeps k _ next (each .1) (rw u at (makes b size))) (written-makes d makes k _ next (each .1))
 
--- frame f of a sound node, assembled into buffer b
-module _ {n : Node} (s : Sound n) (f : ℕ) (b : List ℕ) where
-  -- the fields from number k on use none of the places
-  clear-from : (ps : List ℕ) (k : ℕ) → ((d : ℕ) → k ≤ d → own n (Owner.Frame f) d (fieldAt n d) ≡ true → Unused n ps (fieldAt n d))
-      → Every (Clear n f ps) (chosen (own n (Owner.Frame f)) k (drop k (n .fields)))
-  clear-from ps k h =
-      chosen-each (own n (Owner.Frame f)) noField (Clear n f ps) k (n .fields)
-      (λ d l m t. (eqb-true (fieldAt n d .frame) f (fields-named s d (Owner.Frame f) .0 t .1), h d l t))
+pub assembled-length : (n : Node) (f : ℕ) (b : List ℕ) → assembleAnswer n f (length b) ≡ 0 → length (assembled n f b) ≡ frameAt (n .layout) f .length
+unfolding assembled
+assembled-length n f b ok = rw ok (written-length n f (fieldsOf (n .layout) (Owner.Frame f)) b ∙ assemble-tests n f (length b) ok)
 
-  pub assembled-length : assembleAnswer n f (length b) ≡ 0 → length (assembled n f b) ≡ frameAt n f .head .length
-  unfolding assembled
-  assembled-length ok = rw ok (written-length n f (fieldsOf n (Owner.Frame f)) b ∙ assemble-tests n f (length b) ok)
+module _ (n : Node) (f : ℕ) where
+  in-frame : (d : ℕ) → InFrame n f d → laidAt (n .layout) d .frame ≡ f
+  in-frame d t = eqb-true (laidAt (n .layout) d .frame) f (cell-names (n .layout) (Owner.Frame f) d t)
 
-  assembled-written : assembleAnswer n f (length b) ≡ 0 → assembled n f b ≡ written n (frameAt n f .head) (fieldsOf n (Owner.Frame f)) b
-  unfolding assembled
-  assembled-written ok = rw ok refl
+  -- a cell of the frame that uses none of the places leaves what stands there
+  unused-keeps : (ps : List ℕ) (v : ℕ) (d : ℕ) → InFrame n f d → Unused n ps (laidAt (n .layout) d) → Keeps n f ps v d
+  unused-keeps ps v d t unused b size e =
+      let x = laidAt (n .layout) d in
+      rw (writes-put n f x b size (in-frame d t))
+      (unpacked-other ps (itsStatusPlaces (n .layout) x) _ _ (unused .1) ∙ unpacked-other ps (messagePlaces (n .layout) x) _ b (unused .0) ∙ e)
 
   -- a bit that no field of the frame uses stays
-  pub other-bit : (q : ℕ)
-      → ((d : ℕ) → own n (Owner.Frame f) d (fieldAt n d) ≡ true
-      → NoneOf q (messagePlaces n (fieldAt n d)) × NoneOf q (itsStatusPlaces n (fieldAt n d)))
+  pub other-bit : (b : List ℕ) (q : ℕ)
+      → ((d : ℕ) → InFrame n f d
+      → NoneOf q (messagePlaces (n .layout) (laidAt (n .layout) d)) × NoneOf q (itsStatusPlaces (n .layout) (laidAt (n .layout) d)))
       → bitAt (assembled n f b) q ≡ bitAt b q
   unfolding assembled
-  other-bit q h =
+  other-bit b q h =
       by-test (λ (c : List ℕ). bitAt c q ≡ bitAt b q) (eqb (assembleAnswer n f (length b)) 0)
       (λ t. let size = assemble-tests n f (length b) (eqb-true _ 0 t) in
-      let clear = clear-from (q ∷ []) 0 (λ d l m. ((h d m .0, tt), (h d m .1, tt))) in
-      agree (q ∷ []) _ b .1 (written-clear n f (q ∷ []) (fieldsOf n (Owner.Frame f)) b size clear) .0)
+      let v = unpacked (q ∷ []) b in
+      let each = every-number (Keeps n f (q ∷ []) v) (frameCells n f) (λ d m. unused-keeps (q ∷ []) v d m ((h d m .0, tt), (h d m .1, tt))) in
+      agree (q ∷ []) _ b .1 (written-keeps n f (q ∷ []) v (frameCells n f) b size each refl) .0)
       (λ t. refl)
 
-  module _ (ok : assembleAnswer n f (length b) ≡ 0) (d : ℕ) (mine : own n (Owner.Frame f) d (fieldAt n d) ≡ true) where
-    in-count : d < n .field-number
-    in-count = fields-named s d (Owner.Frame f) .0 mine .0
+-- ---- two fields of a frame are apart, in either order
 
-    in-frame : fieldAt n d .frame ≡ f
-    in-frame = eqb-true (fieldAt n d .frame) f (fields-named s d (Owner.Frame f) .0 mine .1)
+first-off : (ps : List ℕ) (q : ℕ) (qs : List ℕ) → Disjoint ps (q ∷ qs) → NoneOf q ps × Disjoint ps qs
+first-off [] q qs h = (tt, tt)
+first-off (p ∷ ps) q qs h = let (none, rest) = first-off ps q qs (h .1) in ((λ e. h .0 .0 (sym e), none), (h .0 .1, rest))
 
-    -- the frame as the fields before d leave it
-    earlier : List ℕ
-    earlier = written n (frameAt n f .head) (chosen (own n (Owner.Frame f)) 0 (take d (n .fields))) b
+turned : (ps qs : List ℕ) → Disjoint ps qs → Disjoint qs ps
+turned ps [] h = tt
+turned ps (q ∷ qs) h = let (none, rest) = first-off ps q qs h in (none, turned ps qs rest)
 
-    earlier-length : length earlier ≡ frameAt n (fieldAt n d .frame) .head .length
-    unfolding earlier
-    earlier-length = rw in-frame (written-length n f _ b ∙ assemble-tests n f (length b) ok)
+apart-turned : (l : Layout) (x y : FieldRecord) → Apart l x y → Apart l y x
+apart-turned l x y a =
+    record {
+      bits-bits = turned (messagePlaces l x) (messagePlaces l y) (a .bits-bits);
+      bits-status = turned (itsStatusPlaces l x) (messagePlaces l y) (a .status-bits);
+      status-bits = turned (messagePlaces l x) (itsStatusPlaces l y) (a .bits-status);
+      status-status = turned (itsStatusPlaces l x) (itsStatusPlaces l y) (a .status-status);
+    }
 
-    -- what field d wrote at places that no later field uses
-    stands : (ps : List ℕ) → ((e : ℕ) → d < e → own n (Owner.Frame f) e (fieldAt n e) ≡ true → Unused n ps (fieldAt n e))
-        → unpacked ps (assembled n f b) ≡ unpacked ps (put n (fieldAt n d) earlier)
-    unfolding earlier
-    stands ps h =
-        let room : d < length (n .fields) = omega (arith, in-count) in
-        rw (assembled-written ok, chosen-split (own n (Owner.Frame f)) noField (n .fields) d room mine)
-        (written-last n f ps _ (fieldAt n d) _ b (assemble-tests n f (length b) ok) in-frame (clear-from ps (suc d) h))
+-- ---- field d of frame f of a sound node, which was assembled into buffer b
 
-    later-apart : (e : ℕ) → d < e → own n (Owner.Frame f) e (fieldAt n e) ≡ true → Apart n (fieldAt n d) (fieldAt n e)
-    later-apart e h t =
-        let named = fields-named s e (Owner.Frame f) .0 t in
-        s .apart d e h (named .0) (in-frame ∙ sym (eqb-true (fieldAt n e .frame) f (named .1)))
+module _ {n : Node} (s : Sound n) (f : ℕ) (b : List ℕ) (ok : assembleAnswer n f (length b) ≡ 0) (d : ℕ)
+    (mine : InFrame n f d) where
+  abbrev laid : FieldRecord
+  laid = laidAt (n .layout) d
 
-    -- its message's held value
-    pub held-stands : valueOf (isSigned (messageAt n (fieldAt n d .message))) (messageAt n (fieldAt n d .message) .width)
-        (unpacked (messagePlaces n (fieldAt n d)) (assembled n f b))
-        ≡ messageAt n (fieldAt n d .message) .held
-    held-stands =
-        let field = s .fields d in-count in
-        rw (stands (messagePlaces n (fieldAt n d)) (λ e h t. let a = later-apart e h t in (a .bits-bits, a .bits-status)))
-        (put-held field earlier earlier-length (held-in-range _ _ (s .messages (fieldAt n d .message) (field .message) .held)))
+  field : SoundField (n .layout) d laid
+  field = s .layout .fields d (fields-named (s .layout) (Owner.Frame f) d .0 mine .0)
 
-    -- and its validity, where it has a status bit
-    pub status-stands : fieldAt n d .status ≡ 1
-        → unpacked (itsStatusPlaces n (fieldAt n d)) (assembled n f b) ≡ cond (isValid (messageAt n (fieldAt n d .message))) 1 0
-    status-stands t =
-        rw (stands (itsStatusPlaces n (fieldAt n d)) (λ e h u. let a = later-apart e h u in (a .status-bits, a .status-status)))
-        (put-status (s .fields d in-count) earlier earlier-length t)
+  -- what it writes at places that no other field of the frame uses stands there
+  stands : (ps : List ℕ) (v : ℕ) → ((c : List ℕ) → length c ≡ frameAt (n .layout) (laid .frame) .length → unpacked ps (put n laid c) ≡ v)
+      → ((e : ℕ) → (e ≡ d → ⊥) → InFrame n f e → Unused n ps (laidAt (n .layout) e))
+      → unpacked ps (assembled n f b) ≡ v
+  unfolding assembled
+  stands ps v puts unused =
+      let each = every-number (Keeps n f ps v) (frameCells n f) (λ e t. keeps e t (ℕ-discrete e d)) in
+      rw ok (written-makes n f ps v d makes (frameCells n f) b (assemble-tests n f (length b) ok) each mine)
+    where
+      makes : (c : List ℕ) → Sized n f c → unpacked ps (after n f laid c) ≡ v
+      makes c size = let there = in-frame n f d mine in rw (writes-put n f laid c size there) (puts c (rw there size))
+
+      keeps : (e : ℕ) → InFrame n f e → Dec (e ≡ d) → Keeps n f ps v e
+      keeps e t (yes h) = λ c size u. rw h (makes c size)
+      keeps e t (no h) = unused-keeps n f ps v e t (unused e h t)
+
+  others-apart : (e : ℕ) → (e ≡ d → ⊥) → InFrame n f e → Apart (n .layout) laid (laidAt (n .layout) e)
+  others-apart e h t = go (decLt d e)
+    where
+      same : laid .frame ≡ laidAt (n .layout) e .frame
+      same = in-frame n f d mine ∙ sym (in-frame n f e t)
+
+      go : Dec (d < e) → Apart (n .layout) laid (laidAt (n .layout) e)
+      go (yes l) = s .layout .apart d e l (fields-named (s .layout) (Owner.Frame f) e .0 t .0) same
+      go (no l) =
+          apart-turned (n .layout) _ _
+          (s .layout .apart e d (omega arith) (fields-named (s .layout) (Owner.Frame f) d .0 mine .0) (sym same))
+
+  -- its message's held value
+  pub held-stands : valueOf (isSigned (itsMessage n laid)) (itsMessage n laid .width) (unpacked (messagePlaces (n .layout) laid) (assembled n f b))
+      ≡ heldValue (itsMessage n laid) (itsState n laid)
+  held-stands =
+      rw (stands (messagePlaces (n .layout) laid) _ (put-held n field) (λ e h t. let a = others-apart e h t in (a .bits-bits, a .bits-status)))
+      (held-value (itsMessage n laid) (itsState n laid) (s .state .messages (laid .message) (field .message))
+      (in-frame-bounds _ _ _ (field .lies) .0))
+
+  -- and its validity, where it has a status bit
+  pub status-stands : laid .status ≡ 1 → unpacked (itsStatusPlaces (n .layout) laid) (assembled n f b) ≡ cond (isValid (itsState n laid)) 1 0
+  status-stands t =
+      stands (itsStatusPlaces (n .layout) laid) _ (λ c size. put-status n field c size t)
+      (λ e h u. let a = others-apart e h u in (a .status-bits, a .status-status))
 
 -- ---- receiving
 
-pub received-status : {n : Node} → Sound n → (m : ℕ) → m < n .message-number → isSent (messageAt n m) ≡ false → IsStatus (receiveAnswer n m)
+pub received-status : {n : Node} → Sound n → (m : ℕ) → m < n .layout .message-number → isSent (messageAt (n .layout) m) ≡ false
+    → IsStatus (receiveAnswer n m)
 unfolding receiveAnswer
-received-status {n} s m l r = rw (lt-ltb m (messageCount n) (omega arith), r) (s .messages m l .status)
+received-status {n} s m l r = rw (lt-ltb m (messageCount (n .layout)) (omega arith), r) (s .state .messages m l .status)

@@ -1,70 +1,64 @@
--- Whose fields. In any node they stand in the owner's cells, and there what belongs to the owner is its field, in a frame of the memory. In a sound
--- node the fields of a message or a frame are all those below the count that name it: of a frame any cell may be one; a message's fields stand in
--- its run, which soundness says of each field that names it.
+-- Whose fields. In any layout an owner's cells are below the count, and their fields name it. In a sound layout they are all such cells: a field
+-- stands in the run of its message, and has a place in that of its frame.
 -- Assumes nothing.
-use mathlib.Core.Path.{_≡_, ap}
-use mathlib.Core.Bool.{Bool, true, _&&_, and-eq-true-iff}
-use mathlib.Core.Logic.{_↔_, Iff·rfl}
-use Prim.Native.Nat.{ℕ, _+_, _<_, _≤_}
+use mathlib.Core.Path.{_≡_, refl}
+use mathlib.Core.Bool.{true, and-eq-true-iff}
+use mathlib.Core.Logic.{_↔_}
+use Prim.Native.Nat.{ℕ, _+_, _-_, _<_, _≤_}
 use native.Mathlib.Omega.{arith}
 use lib.Dec.{ltb}
-use borrow.Author.Tests.{ltb-true, lt-ltb, leb-true, le-leb, eqb-true}
-use Rattle.layout.specs.declared.Counts.{Counts}
-use Rattle.store.specs.declared.Field.{Field}
-use Rattle.store.specs.Node.{Node, countsOf, frameCount, messageCount, messageAt, fieldAt}
+use borrow.Author.Tests.{ltb-true, lt-ltb, eqb-true}
+use Rattle.store.specs.Node.{Layout, fieldCount, frameAt, messageAt, laidAt}
+use Rattle.store.specs.Start.{table}
 use Rattle.node.specs.declared.Owner.{Owner}
-use Rattle.node.specs.Own.{firstCell, endCell, names, belongs, own}
-use Rattle.node.specs.Sound.{Sound}
+use Rattle.node.specs.Own.{isIn, firstPlace, endPlace, cellAt, names, owns, cellsOf}
+use Rattle.node.specs.Sound.{SoundLayout}
+use Rattle.node.proofs.Lists.{in-chosen, in-table}
 
--- two tests in a row, as two facts
-both : {P Q : Type 0} {a b : Bool} → ((a ≡ true) ↔ P) → ((b ≡ true) ↔ Q) → ((a && b) ≡ true) ↔ (P × Q)
-both {P} {Q} {a} {b} p q =
-    let parts = and-eq-true-iff a b in
-    (λ t. (p .0 (parts .0 t .0), q .0 (parts .0 t .1)), λ h. parts .1 (p .1 (h .0), q .1 (h .1)))
+module _ (l : Layout) (o : Owner) where
+  pub owns-parts : (d : ℕ) → (owns l o d ≡ true) ↔ ((d < fieldCount l) × (names o (laidAt l d) ≡ true))
+  unfolding owns
+  owns-parts d =
+      let parts = and-eq-true-iff (ltb d (fieldCount l)) (names o (laidAt l d)) in
+      (λ t. (ltb-true d (fieldCount l) (parts .0 t .0), parts .0 t .1), λ h. parts .1 (lt-ltb d (fieldCount l) (h .0), h .1))
 
-below : (a b : ℕ) → (ltb a b ≡ true) ↔ (a < b)
-below a b = (ltb-true a b, lt-ltb a b)
+  -- what a place gives is one of its cells exactly if it owns it
+  cell-placed : (d : ℕ)
+      → (isIn d (cellsOf l o) ≡ true)
+      ↔ ((isIn d (table (cellAt l o) (firstPlace l o) (endPlace l o - firstPlace l o)) ≡ true) × (owns l o d ≡ true))
+  unfolding cellsOf
+  cell-placed d = in-chosen (owns l o) d (table (cellAt l o) (firstPlace l o) (endPlace l o - firstPlace l o))
 
-pub own-parts : (n : Node) (o : Owner) (d : ℕ) (x : Field)
-    → (own n o d x ≡ true)
-    ↔ (((firstCell n o ≤ d) × (d < endCell n o)) × ((x .message < messageCount n) × ((x .frame < frameCount n) × (names o x ≡ true))))
-unfolding own belongs
-own-parts n o d x =
-    both (both (leb-true (firstCell n o) d, le-leb (firstCell n o) d) (below d (endCell n o)))
-    (both (below (x .message) (messageCount n)) (both (below (x .frame) (frameCount n)) Iff·rfl))
+  -- so its cells are below the count, and their fields name it
+  cell-parts : (d : ℕ) → isIn d (cellsOf l o) ≡ true → (d < fieldCount l) × (names o (laidAt l d) ≡ true)
+  cell-parts d t = owns-parts d .0 (cell-placed d .0 t .1)
 
--- the frame of a field that belongs to it is one of the memory
-pub frame-known : (n : Node) {c : Counts} (o : Owner) (x : Field) → c ≡ countsOf n → belongs c o x ≡ true → x .frame < 32
-unfolding belongs
-frame-known n {c} o x e t =
-    let number = both (below (x .message) (c .messages)) (both (below (x .frame) (c .frames)) Iff·rfl) .0 t .1 .0 in
-    let known : c .frames ≡ frameCount n = ap (λ (r : Counts). r .frames) e in
-    omega arith
+  pub cell-names : (d : ℕ) → isIn d (cellsOf l o) ≡ true → names o (laidAt l d) ≡ true
+  cell-names d t = cell-parts d t .1
 
--- in its cells a field is the owner's exactly if it belongs to it
-pub own-within : (n : Node) (o : Owner) (d : ℕ) (x : Field) → firstCell n o ≤ d → d < endCell n o → own n o d x ≡ belongs (countsOf n) o x
-unfolding own
-own-within n o d x from to = rw (le-leb (firstCell n o) d from, lt-ltb d (endCell n o) to)
+module _ {l : Layout} (s : SoundLayout l) where
+  -- a cell below the count that names the owner stands at one of its places
+  placed : (o : Owner) (d : ℕ) → d < l .field-number → names o (laidAt l d) ≡ true
+      → (j : ℕ) × (firstPlace l o ≤ j) × (j < firstPlace l o + (endPlace l o - firstPlace l o)) × (cellAt l o j ≡ d)
+  placed (Owner.Message m) d h t =
+      let x = s .fields d h in
+      let e = eqb-true (laidAt l d .message) m t in
+      let from : messageAt l m .first ≤ d = rw e at (x .run-from) in
+      let to : d < messageAt l m .first + messageAt l m .fields = rw e at (x .run-to) in
+      let g = s .messages m (rw e at (x .message)) in
+      (d, from, omega arith, refl)
+  placed (Owner.Frame f) d h t =
+      let x = s .fields d h in
+      let e = eqb-true (laidAt l d .frame) f t in
+      let at = x .listed .place in
+      let from : frameAt l f .first ≤ at = rw e at (x .listed .from) in
+      let to : at < frameAt l f .first + frameAt l f .fields = rw e at (x .listed .to) in
+      let r = s .frames f (rw e at (x .frame)) in
+      (at, from, omega arith, x .listed .number)
 
--- the owner's cells are below the count
-below-count : (n : Node) (o : Owner) (d : ℕ) → d < endCell n o → d < n .field-number
-below-count n (Owner.Message m) d h = omega arith
-below-count n (Owner.Frame f) d h = omega arith
-
-module _ {n : Node} (s : Sound n) (d : ℕ) where
-  -- and hold every field that names it
-  within-cells : (o : Owner) → d < n .field-number → names o (fieldAt n d) ≡ true → (firstCell n o ≤ d) × (d < endCell n o)
-  within-cells (Owner.Message m) l h =
-      let x = s .fields d l in
-      let e = eqb-true (fieldAt n d .message) m h in
-      let from : messageAt n m .first ≤ d = rw e at (x .run-from) in
-      let to : d < messageAt n m .first + messageAt n m .fields = rw e at (x .run-to) in
-      (from, omega (arith, s .messages m (rw e at (x .message)) .few-fields, s .few-fields))
-  within-cells (Owner.Frame f) l h = omega arith
-
-  pub fields-named : (o : Owner) → (own n o d (fieldAt n d) ≡ true) ↔ ((d < n .field-number) × (names o (fieldAt n d) ≡ true))
-  fields-named o = (
-    λ t. let parts = own-parts n o d (fieldAt n d) .0 t in (below-count n o d (parts .0 .1), parts .1 .1 .1),
-    λ h. let x = s .fields d (h .0) in
-        own-parts n o d (fieldAt n d) .1 (within-cells o (h .0) (h .1), (omega arith, (omega arith, h .1))),
+  pub fields-named : (o : Owner) (d : ℕ) → (isIn d (cellsOf l o) ≡ true) ↔ ((d < l .field-number) × (names o (laidAt l d) ≡ true))
+  fields-named o d = (
+    λ t. let parts = cell-parts l o d t in (omega arith, parts .1),
+    λ h. let there = in-table (cellAt l o) d (firstPlace l o) (endPlace l o - firstPlace l o) .1 (placed o d (h .0) (h .1)) in
+        cell-placed l o d .1 (there, owns-parts l o d .1 (omega arith, h .1)),
   )

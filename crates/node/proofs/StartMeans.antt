@@ -7,28 +7,31 @@ use mathlib.Core.Bool.{Bool, true, false, not, cond}
 use mathlib.Core.List.{List}
 use Prim.Native.Nat.{ℕ, _+_, _<_, min}
 use native.Mathlib.Omega.{arith}
-use lib.Dec.{eqb, leb}
+use lib.Dec.{eqb}
 use borrow.Author.Tests.{lt-ltb}
 use Rattle.whole.specs.Whole.{allOf}
 use Rattle.layout.specs.WellLaid.{WellLaid}
-use Rattle.store.specs.Node.{Node, messageCount, isSent, isValid, hasStatusBit, noField, messageAt}
-use Rattle.store.specs.Start.{startField, startStatusBit, initialValue, startMessage, startFields, startOf}
-use Rattle.message.specs.Fields.{goneField}
+use Rattle.store.specs.Node.{Node, messageCount, isSent, isValid, hasStatusBit, heldValue, oldValue, noStage, messageAt, stateAt}
+use Rattle.store.specs.Start.{startStatusBit, initialValue, startMessage, startLayout, startState, startOf}
+use Rattle.message.specs.Fields.{isGone}
 use Rattle.node.specs.declared.Owner.{Owner}
-use Rattle.node.specs.Own.{own}
-use Rattle.node.specs.Calls.{flagAnswer, flagOf, flagPlace, receiveAnswer}
+use Rattle.node.specs.Own.{cellsOf}
+use Rattle.node.specs.Calls.{flagAnswer, goneAt, flagOf, flagPlace, receiveAnswer}
 use Rattle.node.specs.Load.{loadOf}
-use Rattle.node.proofs.Starts.{message-at, load-makes}
-use Rattle.node.proofs.Tables.{table-all, choice-passes, chosen-all}
+use Rattle.node.proofs.Starts.{message-at, state-at, load-makes}
+use Rattle.node.proofs.Tables.{alike-at, all-pass}
 
 -- node n is at start with the layout file s; a flag is read into the caller's place, whatever p it held
 pub record AtStart (s : List ℕ) (n : Node) : Type 0 where
-  pub held : (m : ℕ) → m < messageCount n → messageAt n m .held ≡ initialValue s (n .frame-number + m)
-  pub old : (m : ℕ) → m < messageCount n → messageAt n m .old ≡ initialValue s (n .frame-number + m)
-  pub received : (m : ℕ) → m < messageCount n → isSent (messageAt n m) ≡ false → receiveAnswer n m ≡ 21
-  pub sent : (m : ℕ) → m < messageCount n → isSent (messageAt n m) ≡ true → isValid (messageAt n m) ≡ not (hasStatusBit (messageAt n m))
-  pub gone : allOf goneField (n .fields) ≡ true
-  pub flag : (m p : ℕ) → m < messageCount n → isSent (messageAt n m) ≡ true → flagPlace n m p ≡ 1
+  pub held : (m : ℕ) → m < messageCount (n .layout)
+      → heldValue (messageAt (n .layout) m) (stateAt (n .state) m) ≡ initialValue s (n .layout .frame-number + m)
+  pub old : (m : ℕ) → m < messageCount (n .layout)
+      → oldValue (messageAt (n .layout) m) (stateAt (n .state) m) ≡ initialValue s (n .layout .frame-number + m)
+  pub received : (m : ℕ) → m < messageCount (n .layout) → isSent (messageAt (n .layout) m) ≡ false → receiveAnswer n m ≡ 21
+  pub sent : (m : ℕ) → m < messageCount (n .layout) → isSent (messageAt (n .layout) m) ≡ true
+      → isValid (stateAt (n .state) m) ≡ not (hasStatusBit (messageAt (n .layout) m))
+  pub gone : allOf isGone (n .state .stages) ≡ true
+  pub flag : (m p : ℕ) → m < messageCount (n .layout) → isSent (messageAt (n .layout) m) ≡ true → flagPlace n m p ≡ 1
 
 -- a message whose status bit is k, 0 where it has none
 valid-without : (k : ℕ) → not (eqb (cond (eqb k 0) 1 0) 0) ≡ not (not (eqb k 0))
@@ -42,24 +45,25 @@ module _ (s : List ℕ) (F M D : ℕ) where
   abbrev node : Node
   node = startOf s F M D
 
-  all-gone : allOf goneField (node .fields) ≡ true
-  unfolding startOf startFields startField
-  all-gone = table-all (startField s (F + M) D) goneField (λ d. choice-passes goneField (leb D d) noField _ refl refl) 0 128
+  all-gone : allOf isGone (node .state .stages) ≡ true
+  unfolding startState allOf
+  all-gone = refl
 
-  flag-set : (m p : ℕ) → m < messageCount node → isSent (messageAt node m) ≡ true → flagPlace node m p ≡ 1
-  unfolding flagPlace flagAnswer flagOf
+  flag-set : (m p : ℕ) → m < messageCount (node .layout) → isSent (messageAt (node .layout) m) ≡ true → flagPlace node m p ≡ 1
+  unfolding flagPlace flagAnswer flagOf startState
   flag-set m p l sent =
-      let gone = chosen-all goneField (own node (Owner.Message m)) 0 (node .fields) all-gone in
-      rw (lt-ltb m (messageCount node) l, sent, gone)
+      let gone = all-pass (goneAt (node .state)) (λ d. rw (alike-at noStage 128 d)) (cellsOf (node .layout) (Owner.Message m)) in
+      rw (lt-ltb m (messageCount (node .layout)) l, sent, gone)
 
   start-means : WellLaid s F M D → AtStart s node
-  unfolding startOf startMessage receiveAnswer
+  unfolding startLayout startMessage receiveAnswer
   start-means w =
       record {
-        held = λ m l. rw (message-at s F M D w m (omega arith));
-        old = λ m l. rw (message-at s F M D w m (omega arith));
-        received = λ m l got. rw (lt-ltb m (min M 32) l, got, message-at s F M D w m (omega arith));
-        sent = λ m l sent. rw (message-at s F M D w m (omega arith)) (valid-without (startStatusBit s (F + M) D m));
+        held = λ m l. rw (message-at s F M D w m (omega arith), state-at s F M D w m (omega arith));
+        old = λ m l. rw (message-at s F M D w m (omega arith), state-at s F M D w m (omega arith));
+        received = λ m l got. rw (lt-ltb m (min M 32) l, got, state-at s F M D w m (omega arith));
+        sent = λ m l sent.
+            rw (message-at s F M D w m (omega arith), state-at s F M D w m (omega arith)) (valid-without (startStatusBit s (F + M) D m));
         gone = all-gone;
         flag = flag-set;
       }

@@ -1,5 +1,6 @@
 -- Where the numbers below n that pass a test stand together, they are a stretch: from the least of them on, as many as there are. For up to a
--- number that passes, each one from the least on adds one to the count, and after one that fails the count stays.
+-- number that passes, each one from the least on adds one to the count, and after one that fails the count stays. And where they have keys that rise,
+-- they are no more than the keys, since each has at least as many keys below its own as there are before it.
 -- Assumes nothing.
 use mathlib.Core.Path.{_≡_, refl, sym, _∙_}
 use mathlib.Core.Bool.{Bool, true, false, cond, true≢false}
@@ -10,9 +11,9 @@ use native.Mathlib.Decide.{decLt}
 use Rattle.record.specs.Numbers.{tally, anyBelow, leastBelow}
 use Rattle.record.proofs.Tests.{any-clear}
 use Rattle.record.proofs.Searches.{Least, least-below}
-use Rattle.layout.proofs.Tallies.{tally-run, tally-none}
+use Rattle.layout.proofs.Tallies.{tally-run, tally-grows, tally-rises, tally-none}
 
--- ---- counting from a number on
+-- ---- counting
 
 -- n numbers from a on, where the test says of a + k what another says of k
 pub tally-from : (p q : ℕ → Bool) (a n : ℕ) → ((k : ℕ) → k < n → p (a + k) ≡ q k) → tally p (a + n) ≡ tally p a + tally q n
@@ -21,17 +22,16 @@ tally-from p q a zero same = rw (add-zero a) (omega arith)
 tally-from p q a (suc n) same =
     rw (add-suc a n, same n (omega arith)) (omega (arith, tally-from p q a n (λ k l. same k (omega arith))))
 
--- n numbers more do not lower the count, and raise it by no more than n
-tally-grows : (p : ℕ → Bool) (a n : ℕ) → (tally p a ≤ tally p (a + n)) × (tally p (a + n) ≤ tally p a + n)
+-- where those that pass have keys that rise, each below k, there are no more than k
+pub tally-keys : (p : ℕ → Bool) (key : ℕ → ℕ) (k n : ℕ) → ((d : ℕ) → d < n → p d ≡ true → key d < k)
+    → ((d e : ℕ) → d < e → e < n → p d ≡ true → p e ≡ true → key d < key e) → tally p n ≤ k
 unfolding tally
-tally-grows p a zero = rw (add-zero a) (omega arith)
-tally-grows p a (suc n) = rw (add-suc a n) (one-more (p (a + n)) (tally-grows p a n))
+tally-keys p key k zero below rise = omega arith
+tally-keys p key k (suc n) below rise = one-more (p n) refl (λ x low. tally-keys p key x n low (λ d e h l. rise d e h (omega arith)))
   where
-    one-more :
-        (b : Bool) → (tally p a ≤ tally p (a + n)) × (tally p (a + n) ≤ tally p a + n)
-        → (tally p a ≤ tally p (a + n) + cond b 1 0) × (tally p (a + n) + cond b 1 0 ≤ tally p a + suc n)
-    one-more true h = omega arith
-    one-more false h = omega arith
+    one-more : (b : Bool) → p n ≡ b → ((x : ℕ) → ((d : ℕ) → d < n → p d ≡ true → key d < x) → tally p n ≤ x) → tally p n + cond b 1 0 ≤ k
+    one-more true here few = omega (arith, few (key n) (λ d l t. rise d n l (omega arith) t here), below n (omega arith) here)
+    one-more false here few = omega (arith, few k (λ d l. below d (omega arith)))
 
 -- ---- a stretch
 
@@ -86,9 +86,7 @@ module _ (p : ℕ → Bool) (n k : ℕ) (least : Least p n k) (together : Togeth
       record {
         ends = ends;
         inside = λ d low l. passes d low l (p d) refl;
-        only = λ d l here.
-            let there : suc d + (n - suc d) ≡ n = omega arith in
-            (from-least d here, omega (arith, count-to d l here, rw there at (tally-grows p (suc d) (n - suc d))));
+        only = λ d l here. (from-least d here, omega (arith, count-to d l here, tally-rises p (suc d) n l));
       }
     where
       ends : k + tally p n ≤ n

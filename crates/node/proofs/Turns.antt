@@ -1,102 +1,221 @@
--- Loops over the cells where an owner's fields are, from its first cell to its last: what is before such a loop, what it has changed, and what a turn
--- of it learns from the counts, the cell and the code's test. Assumes nothing.
+-- Loops over an owner's places: the cells that are ahead at place i are those that the places from i on give, and a turn takes one of them off, or
+-- none. What such a loop says of the cells: it tests each and stops at the first that fails, or it moves their stages on, one by one, in place.
+-- Assumes nothing.
 use mathlib.Core.Path.{_≡_, refl, ap, sym, _∙_}
-use mathlib.Core.Bool.{Bool, true, false}
-use mathlib.Core.List.{List, [], _∷_}
-use Prim.Native.Nat.{ℕ, _+_, _<_, _≤_}
+use mathlib.Core.Bool.{Bool, true, false, not, cond, _&&_, _||_, and-true, or-true, or-false}
+use mathlib.Core.List.{List, [], _∷_, map}
+use Prim.Native.Nat.{ℕ, suc, _+_, _-_, _<_, _≤_}
+use native.Mathlib.Decide.{ℕ-discrete}
+use native.Mathlib.Numerals.{add-one}
 use native.Mathlib.Omega.{arith}
-use lib.ListN.{length, getD, set, drop}
-use borrow.Author.Tests.{lt-ltb, le-leb}
+use lib.ListN.{length, getD, set, length-set}
+use lib.Seq.{ext-getD, getD-set-same, getD-set-other}
+use borrow.Author.Tests.{eq-eqb, ne-eqb}
 use Rattle.whole.specs.Whole.{allOf}
-use Rattle.layout.specs.declared.Counts.{Counts}
-use Rattle.store.specs.declared.Field.{Field}
-use Rattle.store.specs.Node.{Node, countsOf, noField, fieldAt}
+use Rattle.record.specs.declared.Field.{Field as FieldRecord}
+use Rattle.store.specs.declared.Stage.{Stage}
+use Rattle.store.specs.declared.Stage.the-variants.{Waiting, Loaded, Gone}
+use Rattle.store.specs.Node.{Layout, State, Node, StoredStage, laidAt, stageAt, noStage, withStages, withStage, nodeWith}
+use Rattle.store.specs.Start.{table}
+use Rattle.message.specs.declared.Change.{Change}
+use Rattle.message.specs.Fields.{stageAfter}
 use Rattle.node.specs.declared.Owner.{Owner}
-use Rattle.node.specs.Own.{chosen, changed, firstCell, endCell, belongs, own, fieldsOf}
-use Rattle.node.proofs.Loops.{
-  chosen-begin,
-  chosen-turn,
-  chosen-end,
-  changedTo,
-  changed-begin,
-  not-yet,
-  changed-turn,
-  changed-skip,
-  changed-end,
-}
-use Rattle.node.proofs.Owners.{own-parts}
+use Rattle.node.specs.Own.{chosen, changed, isIn, firstPlace, endPlace, cellAt, owns, ownCell, cellsOf, fieldsOf}
+use Rattle.node.specs.Calls.{isEmpty, invalidIn, allInvalid, moved}
+use Rattle.node.proofs.Lists.{changed-length, changed-at}
+use Rattle.node.proofs.Owners.{owns-parts}
+use Rattle.node.proofs.Tables.{all-map}
 
-module _ (n : Node) (o : Owner) where
-  -- the owner's fields that a loop has before it at cell d
-  abbrev pub ahead : ℕ → List Field
-  ahead d = chosen (own n o) d (drop d (n .fields))
+-- ---- the cells ahead
 
-  -- the fields with the owner's below cell d changed
-  abbrev pub behind : (Field → Field) → ℕ → List Field
-  behind g d = changedTo (own n o) (λ e x. g x) (n .fields) d
+-- an owner has no place past the cells
+pub end-few : (l : Layout) (o : Owner) → endPlace l o ≤ 128
+end-few l (Owner.Message m) = omega arith
+end-few l (Owner.Frame f) = omega arith
 
-  own-from : (e : ℕ) (x : Field) → own n o e x ≡ true → firstCell n o ≤ e
-  own-from e x t = own-parts n o e x .0 t .0 .0
+module _ (l : Layout) (o : Owner) where
+  abbrev pub ahead : ℕ → List ℕ
+  ahead i = chosen (owns l o) (table (cellAt l o) i (endPlace l o - i))
 
-  own-to : (d : ℕ) → endCell n o ≤ d → (e : ℕ) (x : Field) → own n o e x ≡ true → e < d
-  own-to d past e x t = omega (arith, own-parts n o e x .0 t .0 .1)
+  pub first-ahead : ahead (firstPlace l o) ≡ cellsOf l o
+  unfolding cellsOf
+  first-ahead = refl
 
-  pub first-ahead : ahead (firstCell n o) ≡ fieldsOf n o
-  first-ahead = sym (chosen-begin (own n o) (firstCell n o) (n .fields) own-from)
+  pub last-ahead : (i : ℕ) → endPlace l o ≤ i → ahead i ≡ []
+  unfolding chosen table
+  last-ahead i past = let none : endPlace l o - i ≡ 0 = omega arith in rw none refl
 
-  pub last-ahead : (d : ℕ) → endCell n o ≤ d → ahead d ≡ []
-  last-ahead d past = chosen-end (own n o) d (drop d (n .fields)) (own-to d past)
+  -- the cell at place i comes first, if it is the owner's
+  next-ahead : (i : ℕ) → i < endPlace l o → ahead i ≡ cond (owns l o (cellAt l o i)) (cellAt l o i ∷ ahead (i + 1)) (ahead (i + 1))
+  unfolding chosen table
+  next-ahead i here = let more : endPlace l o - i ≡ suc (endPlace l o - (i + 1)) = omega arith in rw (more, add-one) refl
 
-  module _ (g : Field → Field) where
-    pub first-behind : behind g (firstCell n o) ≡ n .fields
-    first-behind = changed-begin (own n o) (λ e x. g x) (n .fields) (firstCell n o) own-from
+  -- what the code is told of place i: a cell of the owner, or 128
+  module _ (i : ℕ) {d : ℕ} (told : d ≡ ownCell l o i) where
+    own-place : d < 128 → (owns l o (cellAt l o i) ≡ true) × (d ≡ cellAt l o i)
+    unfolding ownCell
+    own-place small = go (owns l o (cellAt l o i)) refl told
+      where
+        go : (t : Bool) → owns l o (cellAt l o i) ≡ t → d ≡ cond t (cellAt l o i) 128 → (owns l o (cellAt l o i) ≡ true) × (d ≡ cellAt l o i)
+        go true t e = (t, e)
+        go false t e = absurd (omega arith)
 
-    pub last-behind : (d : ℕ) → endCell n o ≤ d → behind g d ≡ changed (own n o) (λ e x. g x) 0 (n .fields)
-    last-behind d past = changed-end (own n o) (λ e x. g x) (n .fields) d (own-to d past)
+    other-place : (d < 128 → ⊥) → owns l o (cellAt l o i) ≡ false
+    unfolding ownCell
+    other-place none = go (owns l o (cellAt l o i)) refl told
+      where
+        go : (t : Bool) → owns l o (cellAt l o i) ≡ t → d ≡ cond t (cellAt l o i) 128 → owns l o (cellAt l o i) ≡ false
+        go true t e = absurd (none (omega (arith, owns-parts l o (cellAt l o i) .0 t)))
+        go false t e = t
 
-    pub not-behind : (d : ℕ) → d < length (n .fields) → getD (behind g d) d noField ≡ fieldAt n d
-    not-behind d here = not-yet (own n o) (λ e x. g x) (n .fields) d noField here
+  module _ (i : ℕ) (here : i < endPlace l o) {d : ℕ} (told : d ≡ ownCell l o i) where
+    pub own-ahead : d < 128 → ahead i ≡ d ∷ ahead (i + 1)
+    own-ahead small = let (mine, e) = own-place i told small in next-ahead i here ∙ rw (mine, e) refl
 
-  -- a turn of such a loop: cell d holds x, and what the code tells of it is whether it is one of the owner's
-  pub record Turn (d : ℕ) (x : Field) (t : Bool) : Type 0 where
-    pub here : d < length (n .fields)
-    pub cell : x ≡ fieldAt n d
-    pub told : own n o d x ≡ t
+    pub other-ahead : (d < 128 → ⊥) → ahead i ≡ ahead (i + 1)
+    other-ahead none = next-ahead i here ∙ rw (other-place i told none) refl
 
-  pub turn : {d : ℕ} {k : Counts} {x : Field} {t : Bool} → d < length (n .fields) → firstCell n o ≤ d → d < endCell n o
-      → k ≡ countsOf n → x ≡ fieldAt n d → t ≡ belongs k o x → Turn d x t
-  unfolding own
-  turn {d} here from to counts cell test =
-      record { here = here; cell = cell; told = rw (le-leb (firstCell n o) d from, lt-ltb d (endCell n o) to, test, counts) }
+    -- ---- a loop that tests each cell and stops at the first that fails: X is the whole answer
 
-module _ {n : Node} {o : Owner} {d : ℕ} {x : Field} {t : Bool} (this : Turn n o d x t) where
-  told-there : own n o d (fieldAt n d) ≡ t
-  told-there = rw (this .cell) at (this .told)
+    module _ (p : ℕ → Bool) {X : Bool} where
+      pub all-turn : d < 128 → p d ≡ true → X ≡ allOf p (ahead i) → X ≡ allOf p (ahead (i + 1))
+      unfolding allOf
+      all-turn small t e = e ∙ ap (allOf p) (own-ahead small) ∙ rw t refl
 
-  pub own-ahead : t ≡ true → ahead n o d ≡ x ∷ ahead n o (d + 1)
-  own-ahead e = rw (this .cell) (chosen-turn (own n o) (n .fields) d noField (this .here) ∙ rw (told-there, e))
+      pub all-skip : (d < 128 → ⊥) → X ≡ allOf p (ahead i) → X ≡ allOf p (ahead (i + 1))
+      all-skip none e = e ∙ ap (allOf p) (other-ahead none)
 
-  pub other-ahead : t ≡ false → ahead n o d ≡ ahead n o (d + 1)
-  other-ahead e = chosen-turn (own n o) (n .fields) d noField (this .here) ∙ rw (told-there, e)
+      pub all-stop : d < 128 → p d ≡ false → X ≡ allOf p (ahead i) → false ≡ X
+      unfolding allOf
+      all-stop small t e = sym (e ∙ ap (allOf p) (own-ahead small) ∙ rw t refl)
 
-  pub own-behind : (g : Field → Field) → t ≡ true → set (behind n o g d) d (g x) ≡ behind n o g (d + 1)
-  own-behind g e = rw (this .cell) (changed-turn (own n o) (λ k y. g y) (n .fields) d noField (this .here) (told-there ∙ e))
+  pub all-end : (p : ℕ → Bool) {X : Bool} (i : ℕ) → endPlace l o ≤ i → X ≡ allOf p (ahead i) → true ≡ X
+  unfolding allOf
+  all-end p i past e = sym (e ∙ ap (allOf p) (last-ahead i past))
 
-  pub other-behind : (g : Field → Field) → t ≡ false → behind n o g d ≡ behind n o g (d + 1)
-  other-behind g e = changed-skip (own n o) (λ k y. g y) (n .fields) d noField (this .here) (told-there ∙ e)
+  -- a test of the fields is one of their cells
+  pub fields-ahead : (q : FieldRecord → Bool) → allOf q (fieldsOf l o) ≡ allOf (λ d. q (laidAt l d)) (ahead (firstPlace l o))
+  fields-ahead q = rw first-ahead (all-map (laidAt l) q (cellsOf l o))
 
-  pub own-message : t ≡ true → x .message < 32
-  own-message e = omega (arith, own-parts n o d x .0 (this .told ∙ e) .1 .0)
+-- ---- the same where there must be a cell: `some` says that one was there
 
-  -- a loop that tests each of the owner's fields and stops at the first that fails: X is the whole answer
-  module _ (q : Field → Bool) {X : Bool} where
-    pub all-turn : t ≡ true → q x ≡ true → allOf q (ahead n o d) ≡ X → allOf q (ahead n o (d + 1)) ≡ X
+module _ (l : Layout) (o : Owner) (s : State) where
+  abbrev pub invalidAhead : Bool → ℕ → Bool
+  invalidAhead some i = (some || not (isEmpty (map (laidAt l) (ahead l o i)))) && allOf (invalidIn s) (map (laidAt l) (ahead l o i))
+
+  pub invalid-begin : allInvalid s (fieldsOf l o) ≡ invalidAhead false (firstPlace l o)
+  invalid-begin = rw first-ahead refl
+
+  module _ (i : ℕ) (here : i < endPlace l o) {d : ℕ} (told : d ≡ ownCell l o i) (some : Bool) {X : Bool} (so-far : X ≡ invalidAhead some i) where
+    pub invalid-turn : d < 128 → invalidIn s (laidAt l d) ≡ true → X ≡ invalidAhead true (i + 1)
     unfolding allOf
-    all-turn e s h = sym (ap (allOf q) (own-ahead e) ∙ rw s refl) ∙ h
+    invalid-turn small t = so-far ∙ rw (own-ahead l o i here told small, or-true, t) refl
 
-    pub all-skip : t ≡ false → allOf q (ahead n o d) ≡ X → allOf q (ahead n o (d + 1)) ≡ X
-    all-skip e h = sym (ap (allOf q) (other-ahead e)) ∙ h
+    pub invalid-skip : (d < 128 → ⊥) → X ≡ invalidAhead some (i + 1)
+    invalid-skip none = so-far ∙ rw (other-ahead l o i here told none) refl
 
-    pub all-stop : t ≡ true → q x ≡ false → allOf q (ahead n o d) ≡ X → false ≡ X
+    pub invalid-stop : d < 128 → invalidIn s (laidAt l d) ≡ false → false ≡ X
     unfolding allOf
-    all-stop e s h = sym (ap (allOf q) (own-ahead e) ∙ rw s refl) ∙ h
+    invalid-stop small t = sym (so-far ∙ rw (own-ahead l o i here told small, or-true, t) refl)
+
+  pub invalid-end : (i : ℕ) {some X : Bool} → endPlace l o ≤ i → X ≡ invalidAhead some i → some ≡ X
+  unfolding allOf
+  invalid-end i {some} past so-far = sym (so-far ∙ rw (last-ahead l o i past, or-false, and-true) refl)
+
+-- ---- stages, moved on in place
+
+-- a stage that the memory can hold changes to one that it can hold
+pub after-stored : (change : Change) (t : Stage) → StoredStage t → StoredStage (stageAfter change t)
+after-stored Change.Send Waiting h = refl
+after-stored Change.Send Loaded h = refl
+after-stored Change.Send (Gone k) h = refl
+after-stored Change.Load Waiting h = refl
+after-stored Change.Load Loaded h = refl
+after-stored Change.Load (Gone k) h = h
+after-stored Change.Consume Waiting h = refl
+after-stored Change.Consume Loaded h = refl
+after-stored Change.Consume (Gone k) h = h
+
+-- a second time changes nothing
+after-twice : (c : Change) (t : Stage) → stageAfter c (stageAfter c t) ≡ stageAfter c t
+after-twice Change.Send Waiting = refl
+after-twice Change.Send Loaded = refl
+after-twice Change.Send (Gone k) = refl
+after-twice Change.Load Waiting = refl
+after-twice Change.Load Loaded = refl
+after-twice Change.Load (Gone k) = refl
+after-twice Change.Consume Waiting = refl
+after-twice Change.Consume Loaded = refl
+after-twice Change.Consume (Gone k) = refl
+
+-- one cell after the other
+unfoldable pub movedAll : (Stage → Stage) → List ℕ → List Stage → List Stage
+movedAll g [] t = t
+movedAll g (d ∷ l) t = movedAll g l (set t d (g (getD t d noStage)))
+
+-- each cell is moved on that is there, once or twice
+module _ (g : Stage → Stage) (twice : (t : Stage) → g (g t) ≡ g t) where
+  abbrev movedIn : List ℕ → List Stage → List Stage
+  movedIn l t = changed (λ d. isIn d l) (λ d x. g x) 0 t
+
+  moved-at : (l : List ℕ) (t : List Stage) (j : ℕ) → j < length t
+      → getD (movedIn l t) j noStage ≡ cond (isIn j l) (g (getD t j noStage)) (getD t j noStage)
+  moved-at l t j h = changed-at (λ d. isIn d l) (λ d x. g x) t j noStage h
+
+  moved-length : (l : List ℕ) (t : List Stage) → length (movedIn l t) ≡ length t
+  moved-length l t = changed-length (λ d. isIn d l) (λ d x. g x) 0 t
+
+  none-moved : (t : List Stage) → t ≡ movedIn [] t
+  unfolding isIn
+  none-moved t = ext-getD noStage t (movedIn [] t) (sym (moved-length [] t)) (λ j h. sym (moved-at [] t j h))
+
+  again : (b : Bool) (x : Stage) → cond b (g (g x)) (g x) ≡ g x
+  again true x = twice x
+  again false x = refl
+
+  module _ (d : ℕ) (l : List ℕ) (t : List Stage) where
+    abbrev first : List Stage
+    first = set t d (g (getD t d noStage))
+
+    first-at : (j : ℕ) → j < length t → Dec (j ≡ d)
+        → cond (isIn j l) (g (getD first j noStage)) (getD first j noStage) ≡ cond (isIn j (d ∷ l)) (g (getD t j noStage)) (getD t j noStage)
+    unfolding isIn
+    first-at j h (yes e) =
+        let here : d < length t = omega arith in
+        rw (e, eq-eqb d d refl, getD-set-same t d (g (getD t d noStage)) noStage here) (again (isIn d l) (getD t d noStage))
+    first-at j h (no n) = rw (getD-set-other t d j (g (getD t d noStage)) noStage n, ne-eqb j d n) refl
+
+    one-moved : movedIn l first ≡ movedIn (d ∷ l) t
+    one-moved =
+        let size : length (movedIn l first) ≡ length t = moved-length l first ∙ length-set t d _ in
+        ext-getD noStage (movedIn l first) (movedIn (d ∷ l) t) (size ∙ sym (moved-length (d ∷ l) t))
+        (λ j h. let here : j < length t = omega arith in
+        moved-at l first j (rw length-set here) ∙ first-at j here (ℕ-discrete j d) ∙ sym (moved-at (d ∷ l) t j here))
+
+  moved-all : (l : List ℕ) (t : List Stage) → movedAll g l t ≡ changed (λ d. isIn d l) (λ d x. g x) 0 t
+  unfolding movedAll
+  moved-all [] t = none-moved t
+  moved-all (d ∷ l) t = moved-all l (first d l t) ∙ one-moved d l t
+
+-- the state with the cells moved on that are ahead at place i
+module _ (c : Change) (o : Owner) where
+  abbrev pub movedAhead : Node → ℕ → State
+  movedAhead n i = withStages (n .state) (movedAll (stageAfter c) (ahead (n .layout) o i) (n .state .stages))
+
+  pub move-begin : (n : Node) → movedAhead n (firstPlace (n .layout) o) ≡ moved c o n
+  move-begin n =
+      rw (first-ahead (n .layout) o)
+      (ap (withStages (n .state)) (moved-all (stageAfter c) (after-twice c) (cellsOf (n .layout) o) (n .state .stages)))
+
+  module _ (n : Node) (i : ℕ) (here : i < endPlace (n .layout) o) {d : ℕ} (told : d ≡ ownCell (n .layout) o i) where
+    pub move-turn : {after : Node} → d < 128 → after ≡ nodeWith n (withStage (n .state) d (stageAfter c (stageAt (n .state) d)))
+        → nodeWith after (movedAhead after (i + 1)) ≡ nodeWith n (movedAhead n i)
+    unfolding movedAll
+    move-turn small put = rw (put, own-ahead (n .layout) o i here told small) refl
+
+    pub move-skip : (d < 128 → ⊥) → movedAhead n (i + 1) ≡ movedAhead n i
+    move-skip none = rw (other-ahead (n .layout) o i here told none) refl
+
+  pub move-end : (n : Node) (i : ℕ) → endPlace (n .layout) o ≤ i → movedAhead n i ≡ n .state
+  unfolding movedAll
+  move-end n i past = rw (last-ahead (n .layout) o i past) refl

@@ -9,61 +9,83 @@ use lib.ListN.{length}
 use Rattle.whole.specs.Whole.{allOf}
 use Rattle.packing.specs.Places.{placesIn, unpacked}
 use Rattle.packing.specs.Values.{valueOf}
+use Rattle.record.specs.declared.Field.{Field as FieldRecord}
 use Rattle.store.specs.declared.Message.{Message}
-use Rattle.store.specs.declared.Field.{Field}
-use Rattle.store.specs.Node.{Node, frameCount, messageCount, isSigned, isSent, isBig, isDelivered, dataOf, frameAt, undelivered, withFrames, withMessages}
+use Rattle.store.specs.declared.MessageState.{MessageState}
+use Rattle.store.specs.Node.{
+  Layout,
+  State,
+  Node,
+  frameCount,
+  messageCount,
+  isSigned,
+  isSent,
+  isBig,
+  isDelivered,
+  frameAt,
+  messageAt,
+  deliveryAt,
+  dataAt,
+  noDelivery,
+  withDeliveries,
+  withStates,
+}
 use Rattle.message.specs.Messages.{settled}
 use Rattle.message.specs.Fields.{statusPlaces}
 use Rattle.node.specs.declared.Owner.{Owner}
-use Rattle.node.specs.Own.{chosen, changed, own, fieldsOf}
+use Rattle.node.specs.Own.{chosen, changed, fieldsOf}
 
 -- ---- a field this round
 
 -- the field's frame was validly delivered
-unfoldable pub came : Node → Field → Bool
-came n x = isDelivered (frameAt n (x .frame) .head)
+unfoldable pub came : State → FieldRecord → Bool
+came s x = isDelivered (deliveryAt s (x .frame))
 
 -- its status bit, if it has one, is 1
-unfoldable pub statusSet : Node → Field → Bool
+unfoldable pub statusSet : Node → FieldRecord → Bool
 statusSet n x =
     cond (eqb (x .status) 1)
-    (eqb (unpacked (statusPlaces (length (dataOf (frameAt n (x .frame)))) (frameAt n (x .frame) .head) x) (dataOf (frameAt n (x .frame)))) 1)
+    (eqb (unpacked (statusPlaces (length (dataAt n (x .frame))) (frameAt (n .layout) (x .frame)) x) (dataAt n (x .frame))) 1)
     true
 
 -- an instance counts if both hold
-unfoldable pub counts : Node → Field → Bool
-counts n x = came n x && statusSet n x
+unfoldable pub counts : Node → FieldRecord → Bool
+counts n x = came (n .state) x && statusSet n x
 
 -- the value that a field of message g carries
-unfoldable pub valueIn : Node → Message → Field → ℤ
+unfoldable pub valueIn : Node → Message → FieldRecord → ℤ
 valueIn n g x =
     valueOf (isSigned g) (g .width)
-    (unpacked (placesIn (length (dataOf (frameAt n (x .frame)))) (isBig (frameAt n (x .frame) .head)) (x .start) (g .width)) (dataOf (frameAt n (x .frame))))
+    (unpacked (placesIn (length (dataAt n (x .frame))) (isBig (frameAt (n .layout) (x .frame))) (x .start) (g .width)) (dataAt n (x .frame)))
 
 -- ---- a message this round
 
 -- the values of the counting instances of message m, in field order, which is frame order
-unfoldable pub instances : Node → ℕ → Message → List ℤ
-instances n m g = map (valueIn n g) (chosen (λ d x. own n (Owner.Message m) d x && counts n x) 0 (n .fields))
+unfoldable pub instances : Node → ℕ → List ℤ
+instances n m = map (valueIn n (messageAt (n .layout) m)) (chosen (counts n) (fieldsOf (n .layout) (Owner.Message m)))
 
 -- no frame of it was delivered
 unfoldable pub noneCame : Node → ℕ → Bool
-noneCame n m = allOf (λ x. not (came n x)) (fieldsOf n (Owner.Message m))
+noneCame n m = allOf (λ x. not (came (n .state) x)) (fieldsOf (n .layout) (Owner.Message m))
 
-unfoldable pub closedMessage : Node → ℕ → Message → Message
-closedMessage n m g = settled g (noneCame n m) (instances n m g)
+-- its state afterwards, where it was s
+unfoldable pub closedState : Node → ℕ → MessageState → MessageState
+closedState n m s = settled (messageAt (n .layout) m) s (noneCame n m) (instances n m)
 
 -- ---- the node
 
--- message m of the layout, which is g, is received
-unfoldable pub isReceived : Node → ℕ → Message → Bool
-isReceived n m g = ltb m (messageCount n) && not (isSent g)
+-- number m is that of a received message
+unfoldable pub isReceived : Layout → ℕ → Bool
+isReceived l m = ltb m (messageCount l) && not (isSent (messageAt l m))
 
-unfoldable pub closeMessages : Node → Node
-closeMessages n = withMessages n (changed (isReceived n) (closedMessage n) 0 (n .messages))
+-- each received message is closed
+unfoldable pub closeMessages : Node → State
+closeMessages n = withStates (n .state) (changed (isReceived (n .layout)) (closedState n) 0 (n .state .messages))
 
-unfoldable pub forget : Node → Node
-forget n = withFrames n (changed (λ f h. ltb f (frameCount n)) (λ f h. undelivered h) 0 (n .frames))
+-- no frame of the layout is delivered any more, and nothing of its data is left
+unfoldable pub forget : Layout → State → State
+forget l s = withDeliveries s (changed (λ f. ltb f (frameCount l)) (λ f y. noDelivery) 0 (s .deliveries))
 
-unfoldable pub closeOf : Node → Node
-closeOf n = forget (closeMessages n)
+-- first the messages, then the deliveries
+unfoldable pub closeOf : Node → State
+closeOf n = forget (n .layout) (closeMessages n)

@@ -1,55 +1,74 @@
--- Which cells are the fields of a message and of a frame, on any memory.
+-- Which cells are the fields of a message and of a frame, on any memory: the layout alone says it.
 -- Assumes nothing.
-use mathlib.Core.Bool.{Bool, cond, _&&_}
-use mathlib.Core.List.{List, [], _∷_}
-use Prim.Native.Nat.{ℕ, suc, _+_, _<_, min}
-use lib.Dec.{eqb, ltb, leb}
-use Rattle.layout.specs.declared.Counts.{Counts}
-use Rattle.store.specs.declared.Field.{Field}
-use Rattle.store.specs.Node.{Node, countsOf, fieldCount, messageAt}
+use mathlib.Core.Bool.{Bool, false, cond, _&&_, _||_}
+use mathlib.Core.List.{List, [], _∷_, map}
+use Prim.Native.Nat.{ℕ, suc, _+_, _-_, _<_, min}
+use lib.Dec.{eqb, ltb}
+use Rattle.record.specs.declared.Field.{Field as FieldRecord}
+use Rattle.store.specs.Node.{Layout, fieldCount, frameAt, messageAt, laidAt, listedAt}
+use Rattle.store.specs.Start.{table}
 use Rattle.node.specs.declared.Owner.{Owner}
-use Rattle.node.specs.declared.Cells.{Cells}
+use Rattle.node.specs.declared.Places.{Places}
+
+-- ---- lists
 
 module _ {A : Type 0} where
-  -- the elements that pass a test of their number and their content, in order; their numbers count from i
-  unfoldable pub chosen : (ℕ → A → Bool) → ℕ → List A → List A
-  chosen p i [] = []
-  chosen p i (x ∷ l) = cond (p i x) (x ∷ chosen p (suc i) l) (chosen p (suc i) l)
+  -- the elements that pass a test, in order
+  unfoldable pub chosen : (A → Bool) → List A → List A
+  chosen p [] = []
+  chosen p (x ∷ l) = cond (p x) (x ∷ chosen p l) (chosen p l)
 
-  -- those elements changed, and the others as they are
-  unfoldable pub changed : (ℕ → A → Bool) → (ℕ → A → A) → ℕ → List A → List A
+  -- the elements whose number passes a test changed, and the others as they are; their numbers count from i
+  unfoldable pub changed : (ℕ → Bool) → (ℕ → A → A) → ℕ → List A → List A
   changed p g i [] = []
-  changed p g i (x ∷ l) = cond (p i x) (g i x) x ∷ changed p g (suc i) l
+  changed p g i (x ∷ l) = cond (p i) (g i x) x ∷ changed p g (suc i) l
 
--- the cells where the fields of a message or a frame are: of a message those from its first on, at most eight; of a frame any; all below the count
-abbrev pub firstCell : Node → Owner → ℕ
-firstCell n (Owner.Message m) = messageAt n m .first
-firstCell n (Owner.Frame f) = 0
+-- the number is in the list
+unfoldable pub isIn : ℕ → List ℕ → Bool
+isIn d [] = false
+isIn d (e ∷ l) = eqb d e || isIn d l
 
-abbrev pub endCell : Node → Owner → ℕ
-endCell n (Owner.Message m) = min (fieldCount n) (messageAt n m .first + min (messageAt n m .fields) 8)
-endCell n (Owner.Frame f) = fieldCount n
+-- ---- an owner's cells
 
-abbrev pub cellsOf : Node → Owner → Cells
-cellsOf n o = record { from = firstCell n o; end = endCell n o }
+-- the places where an owner's fields are found: of a message among the fields themselves, from its first on, at most eight; of a frame in the index,
+-- from its first on, at most 32
+abbrev pub firstPlace : Layout → Owner → ℕ
+firstPlace l (Owner.Message m) = messageAt l m .first
+firstPlace l (Owner.Frame f) = frameAt l f .first
+
+abbrev pub endPlace : Layout → Owner → ℕ
+endPlace l (Owner.Message m) = min (fieldCount l) (messageAt l m .first + min (messageAt l m .fields) 8)
+endPlace l (Owner.Frame f) = min 128 (frameAt l f .first + min (frameAt l f .fields) 32)
+
+abbrev pub placesOf : Layout → Owner → Places
+placesOf l o = record { from = firstPlace l o; end = endPlace l o }
+
+-- the cell that a place gives
+abbrev pub cellAt : Layout → Owner → ℕ → ℕ
+cellAt l (Owner.Message m) i = i
+cellAt l (Owner.Frame f) i = listedAt l i
 
 -- the owner's number is one that a region of the memory has
 abbrev pub InMemory : Owner → Type 0
 InMemory (Owner.Message m) = m < 32
 InMemory (Owner.Frame f) = f < 32
 
--- a cell names the message, or the frame
-abbrev pub names : Owner → Field → Bool
+-- a field names the message, or the frame
+abbrev pub names : Owner → FieldRecord → Bool
 names (Owner.Message m) x = eqb (x .message) m
 names (Owner.Frame f) x = eqb (x .frame) f
 
--- it names a message and a frame of the layout, and the owner
-unfoldable pub belongs : Counts → Owner → Field → Bool
-belongs c o x = ltb (x .message) (c .messages) && (ltb (x .frame) (c .frames) && names o x)
+-- cell d is below the count, and its field names the owner
+unfoldable pub owns : Layout → Owner → ℕ → Bool
+owns l o d = ltb d (fieldCount l) && names o (laidAt l d)
 
--- cell d, which holds x, is a field of the message or the frame
-unfoldable pub own : Node → Owner → ℕ → Field → Bool
-own n o d x = (leb (firstCell n o) d && ltb d (endCell n o)) && belongs (countsOf n) o x
+-- the cell at a place if it is the owner's, or 128, which is none
+unfoldable pub ownCell : Layout → Owner → ℕ → ℕ
+ownCell l o i = cond (owns l o (cellAt l o i)) (cellAt l o i) 128
 
-abbrev pub fieldsOf : Node → Owner → List Field
-fieldsOf n o = chosen (own n o) 0 (n .fields)
+-- the owner's cells, in the order of its places, and the fields there
+unfoldable pub cellsOf : Layout → Owner → List ℕ
+cellsOf l o = chosen (owns l o) (table (cellAt l o) (firstPlace l o) (endPlace l o - firstPlace l o))
+
+abbrev pub fieldsOf : Layout → Owner → List FieldRecord
+fieldsOf l o = map (laidAt l) (cellsOf l o)

@@ -3,9 +3,8 @@ ghost use mathlib.Core.Path.{_≡_};
 ghost use Prim.Native.Nat.{_<_, _≤_, min};
 ghost use lib.ListN.{length, take};
 ghost use Rattle.whole.specs.Whole.{allOf};
-ghost use Rattle.store.specs.Node.{nodeSize, nodeOf, isValid, messageAt};
-ghost use Rattle.message.specs.Fields.{goneField};
-ghost use Rattle.node.specs.Own.{cellsOf, InMemory, names, belongs, fieldsOf};
+ghost use Rattle.store.specs.Node.{nodeSize, layoutOf, stateOf, nodeOf, countsOf, messageAt, stateAt, nodeWith};
+ghost use Rattle.node.specs.Own.{placesOf, cellAt, InMemory, names, ownCell, cellsOf, fieldsOf};
 ghost use Rattle.node.specs.Calls.{
   left,
   outcome,
@@ -14,8 +13,7 @@ ghost use Rattle.node.specs.Calls.{
   sendOf,
   invalidateAnswer,
   invalidateOf,
-  isEmpty,
-  invalidIn,
+  allInvalid,
   suppressed,
   assembleAnswer,
   written,
@@ -24,20 +22,22 @@ ghost use Rattle.node.specs.Calls.{
   consumedAnswer,
   consumedOf,
   flagAnswer,
+  goneAt,
   flagPlace,
   deliverAnswer,
   deliverOf,
   receiveAnswer,
   receivedPlace,
 };
-ghost use Rattle.node.specs.Closing.{came, statusSet, counts, valueIn, instances, noneCame, closedMessage, closeMessages, forget, closeOf};
+ghost use Rattle.node.specs.Closing.{came, statusSet, counts, valueIn, instances, noneCame, closedState, closeMessages, forget, closeOf};
 ghost use Rattle.node.specs.Load.{loadOf};
 use layout::Counts;
 use layout::Verdict;
 use message::Change;
-use store::Field;
-use store::Head;
+use record::Field;
+use store::Frame;
 use store::Message;
+use store::MessageState;
 
 // Whose fields: a message's or a frame's.
 pub enum Owner {
@@ -45,8 +45,8 @@ pub enum Owner {
     Frame(u8),
 }
 
-// The cells where an owner's fields are: from .. end.
-pub struct Cells {
+// The places where an owner's fields are found: from .. end.
+pub struct Places {
     pub from: usize,
     pub end: usize,
 }
@@ -59,24 +59,39 @@ fn least(a: usize, b: usize) -> usize
     if a <= b { a } else { b }
 }
 
-fn own_cells(node: &[u8], owner: Owner) -> Cells
+fn own_places(node: &[u8], owner: Owner) -> Places
     requires { ⌜ (InMemory owner) × (length (now node) ≡ nodeSize) ⌝ }
-    ensures { λ r. ⌜ (r ≡ cellsOf (nodeOf (now (node .entry))) owner) × (r .end ≤ 128) ⌝ }
+    ensures { λ r. ⌜ (r ≡ placesOf (layoutOf (now (node .entry))) owner) × (r .end ≤ 128) ⌝ }
 {
-    let fields = store::counts(node).fields;
     match owner {
         Owner::Message(m) => {
             let g = store::message_at(node, m as usize);
             let from = g.first as usize;
-            Cells {
+            let fields = store::counts(node).fields;
+            Places {
                 from,
                 end: least(fields, from + least(g.fields as usize, 8)),
             }
         }
-        Owner::Frame(_) => Cells {
-            from: 0,
-            end: fields,
-        },
+        Owner::Frame(f) => {
+            let h = store::frame_at(node, f as usize);
+            let from = h.first as usize;
+            Places {
+                from,
+                end: least(128, from + least(h.fields as usize, 32)),
+            }
+        }
+    }
+}
+
+// The cell that a place gives.
+fn cell_at(node: &[u8], owner: Owner, i: usize) -> usize
+    requires { ⌜ (i < 128) × (length (now node) ≡ nodeSize) ⌝ }
+    ensures { λ r. ⌜ r ≡ cellAt (layoutOf (now (node .entry))) owner i ⌝ }
+{
+    match owner {
+        Owner::Message(_) => i,
+        Owner::Frame(_) => store::listed_at(node, i) as usize,
     }
 }
 
@@ -89,29 +104,34 @@ fn is_named(owner: Owner, x: Field) -> bool
     }
 }
 
-// The name is tested first: most cells name another frame.
-fn does_belong(c: Counts, owner: Owner, x: Field) -> bool
-    ensures { λ r. ⌜ r ≡ belongs c owner x ⌝ }
+// The cell at a place if it is the owner's, or 128.
+fn own_cell(node: &[u8], c: Counts, owner: Owner, i: usize) -> usize
+    requires { ⌜ (i < 128) × (c ≡ countsOf (layoutOf (now node))) × (length (now node) ≡ nodeSize) ⌝ }
+    ensures { λ r. ⌜ r ≡ ownCell (layoutOf (now (node .entry))) owner i ⌝ }
 {
-    if !is_named(owner, x) {
-        return false;
+    let d = cell_at(node, owner, i);
+    if c.fields <= d {
+        return 128;
     }
-    ((x.message as usize) < c.messages) & ((x.frame as usize) < c.frames)
+    if is_named(owner, store::laid_at(node, d)) {
+        return d;
+    }
+    128
 }
 
-// An owner's fields move on; the other cells stay.
-fn move_fields(node: &mut [u8], owner: Owner, change: Change)
-    requires { ⌜ (InMemory owner) × (length (now node) ≡ nodeSize) ⌝ }
-    ensures { λ _. ⌜ nodeOf (now (node .exit)) ≡ moved change owner (nodeOf (now (node .entry))) ⌝ }
+// An owner's fields, which are at those places, move on; the other cells stay.
+fn move_fields(node: &mut [u8], owner: Owner, own: Places, change: Change)
+    requires { ⌜ (own ≡ placesOf (layoutOf (now node)) owner) × (length (now node) ≡ nodeSize) ⌝ }
+    ensures { λ _. ⌜ nodeOf (now (node .exit)) ≡ nodeWith (nodeOf (now (node .entry))) (moved change owner (nodeOf (now (node .entry)))) ⌝ }
 {
     let c = store::counts(&node[..]);
-    let own = own_cells(&node[..], owner);
     let from = own.from;
     let end = own.end;
-    for d in from..end {
-        let x = store::field_at(&node[..], d);
-        if does_belong(c, owner, x) {
-            store::put_field(&mut *node, d, message::moved_field(change, x));
+    for i in from..end {
+        let d = own_cell(&node[..], c, owner, i);
+        if d < 128 {
+            let x = store::field_at(&node[..], d);
+            store::put_stage(&mut *node, d, message::stage_after(change, x));
         }
     }
 }
@@ -120,7 +140,7 @@ fn move_fields(node: &mut [u8], owner: Owner, change: Change)
 
 fn send_answer(node: &[u8], message: u64, value: i64) -> u8
     requires { ⌜ length (now node) ≡ nodeSize ⌝ }
-    ensures { λ r. ⌜ r ≡ sendAnswer (nodeOf (now (node .entry))) message value ⌝ }
+    ensures { λ r. ⌜ r ≡ sendAnswer (layoutOf (now (node .entry))) message value ⌝ }
 {
     if (store::counts(node).messages as u64) <= message {
         return 16;
@@ -145,8 +165,11 @@ pub fn send(node: &mut [u8], message: u64, value: i64) -> u8
     }
     let m = message as usize;
     let g = store::message_at(&node[..], m);
-    move_fields(&mut *node, Owner::Message(message as u8), Change::Send);
-    store::put_message(node, m, message::offered_message(g, value));
+    let s = store::state_at(&node[..], m);
+    let owner = Owner::Message(message as u8);
+    let own = own_places(&node[..], owner);
+    move_fields(&mut *node, owner, own, Change::Send);
+    store::put_state(node, m, message::offered_state(g, s, value));
     0
 }
 
@@ -154,7 +177,7 @@ pub fn send(node: &mut [u8], message: u64, value: i64) -> u8
 
 fn invalidate_answer(node: &[u8], message: u64) -> u8
     requires { ⌜ length (now node) ≡ nodeSize ⌝ }
-    ensures { λ r. ⌜ r ≡ invalidateAnswer (nodeOf (now (node .entry))) message ⌝ }
+    ensures { λ r. ⌜ r ≡ invalidateAnswer (layoutOf (now (node .entry))) message ⌝ }
 {
     if (store::counts(node).messages as u64) <= message {
         return 16;
@@ -178,61 +201,64 @@ pub fn invalidate(node: &mut [u8], message: u64) -> u8
         return answer;
     }
     let m = message as usize;
-    let g = store::message_at(&node[..], m);
-    store::put_message(node, m, message::invalidated_message(g));
+    let s = store::state_at(&node[..], m);
+    store::put_state(node, m, message::invalidated_state(s));
     0
 }
 
 // ---- assemble
 
-fn has_no_field(node: &[u8], frame: u8) -> bool
-    requires { ⌜ (frame < 32) × (length (now node) ≡ nodeSize) ⌝ }
-    ensures { λ r. ⌜ r ≡ isEmpty (fieldsOf (nodeOf (now (node .entry))) (Owner.Frame frame)) ⌝ }
+// A field's message, or none: on any memory a field may name one that the memory has not.
+fn its_message(node: &[u8], x: Field) -> Message
+    requires { ⌜ length (now node) ≡ nodeSize ⌝ }
+    ensures { λ r. ⌜ r ≡ messageAt (layoutOf (now (node .entry))) (x .message) ⌝ }
 {
-    let c = store::counts(node);
-    let owner = Owner::Frame(frame);
-    for d in 0..c.fields {
-        if does_belong(c, owner, store::field_at(node, d)) {
-            return false;
-        }
+    if x.message < 32 {
+        return store::message_at(node, x.message as usize);
     }
-    true
+    store::no_message()
 }
 
-fn is_valid(node: &[u8], x: Field) -> bool
-    requires { ⌜ (x .message < 32) × (length (now node) ≡ nodeSize) ⌝ }
-    ensures { λ r. ⌜ r ≡ isValid (messageAt (nodeOf (now (node .entry))) (x .message)) ⌝ }
+fn its_state(node: &[u8], x: Field) -> MessageState
+    requires { ⌜ length (now node) ≡ nodeSize ⌝ }
+    ensures { λ r. ⌜ r ≡ stateAt (stateOf (now (node .entry))) (x .message) ⌝ }
 {
-    let g = store::message_at(node, x.message as usize);
-    !(g.valid == 0)
+    if x.message < 32 {
+        return store::state_at(node, x.message as usize);
+    }
+    store::no_state()
 }
 
+// Whether the frame has a field, and all messages of its fields are invalid.
 fn all_invalid(node: &[u8], frame: u8) -> bool
     requires { ⌜ (frame < 32) × (length (now node) ≡ nodeSize) ⌝ }
-    ensures { λ r. ⌜ r ≡ allOf (invalidIn (nodeOf (now (node .entry)))) (fieldsOf (nodeOf (now (node .entry))) (Owner.Frame frame)) ⌝ }
+    ensures { λ r. ⌜ r ≡ allInvalid (stateOf (now (node .entry))) (fieldsOf (layoutOf (now (node .entry))) (Owner.Frame frame)) ⌝ }
 {
     let c = store::counts(node);
     let owner = Owner::Frame(frame);
-    for d in 0..c.fields {
-        let x = store::field_at(node, d);
-        if does_belong(c, owner, x) {
-            if is_valid(node, x) {
+    let own = own_places(node, owner);
+    let from = own.from;
+    let end = own.end;
+    let mut some = false;
+    for i in from..end {
+        let d = own_cell(node, c, owner, i);
+        if d < 128 {
+            let s = its_state(node, store::laid_at(node, d));
+            if !(s.valid == 0) {
                 return false;
             }
+            some = true;
         }
     }
-    true
+    some
 }
 
 fn is_suppressed(node: &[u8], frame: u8) -> bool
     requires { ⌜ (frame < 32) × (length (now node) ≡ nodeSize) ⌝ }
     ensures { λ r. ⌜ r ≡ suppressed (nodeOf (now (node .entry))) frame ⌝ }
 {
-    let h = store::head_at(node, frame as usize);
+    let h = store::frame_at(node, frame as usize);
     if !(h.trigger == 1) {
-        return false;
-    }
-    if has_no_field(node, frame) {
         return false;
     }
     all_invalid(node, frame)
@@ -245,7 +271,7 @@ fn assemble_answer(node: &[u8], frame: u64, size: usize) -> u8
     if (store::counts(node).frames as u64) <= frame {
         return 16;
     }
-    let h = store::head_at(node, frame as usize);
+    let h = store::frame_at(node, frame as usize);
     if !(h.direction == 1) {
         return 17;
     }
@@ -258,21 +284,29 @@ fn assemble_answer(node: &[u8], frame: u64, size: usize) -> u8
     0
 }
 
-fn write_fields(node: &[u8], frame: u8, h: Head, buffer: &mut [u8])
+// The frame's fields write what they carry into the buffer, and move on.
+fn load_fields(node: &mut [u8], frame: u8, h: Frame, buffer: &mut [u8])
     requires { ⌜ (frame < 32) × (length (now node) ≡ nodeSize) ⌝ }
-    ensures { λ _. ⌜ now (buffer .exit) ≡ written (nodeOf (now (node .entry))) h (fieldsOf (nodeOf (now (node .entry))) (Owner.Frame frame)) (now (buffer .entry)) ⌝ }
+    ensures { λ _. ⌜ (nodeOf (now (node .exit)) ≡ nodeWith (nodeOf (now (node .entry))) (moved Change.Load (Owner.Frame frame) (nodeOf (now (node .entry))))) × (now (buffer .exit) ≡ written (nodeOf (now (node .entry))) h (fieldsOf (layoutOf (now (node .entry))) (Owner.Frame frame)) (now (buffer .entry))) ⌝ }
 {
-    let c = store::counts(node);
+    let c = store::counts(&node[..]);
     let owner = Owner::Frame(frame);
-    for d in 0..c.fields {
-        let x = store::field_at(node, d);
-        if does_belong(c, owner, x) {
+    let own = own_places(&node[..], owner);
+    let from = own.from;
+    let end = own.end;
+    for i in from..end {
+        let d = own_cell(&node[..], c, owner, i);
+        if d < 128 {
+            let x = store::laid_at(&node[..], d);
             message::write_field(
                 &mut *buffer,
                 h,
-                store::message_at(node, x.message as usize),
+                its_message(&node[..], x),
+                its_state(&node[..], x),
                 x,
             );
+            let y = store::field_at(&node[..], d);
+            store::put_stage(&mut *node, d, message::stage_after(Change::Load, y));
         }
     }
 }
@@ -286,9 +320,8 @@ pub fn assemble(node: &mut [u8], frame: u64, buffer: &mut [u8]) -> u8
         return answer;
     }
     let f = frame as u8;
-    let h = store::head_at(&node[..], frame as usize);
-    write_fields(&node[..], f, h, buffer);
-    move_fields(node, Owner::Frame(f), Change::Load);
+    let h = store::frame_at(&node[..], frame as usize);
+    load_fields(node, f, h, buffer);
     0
 }
 
@@ -296,12 +329,12 @@ pub fn assemble(node: &mut [u8], frame: u64, buffer: &mut [u8]) -> u8
 
 fn consumed_answer(node: &[u8], frame: u64) -> u8
     requires { ⌜ length (now node) ≡ nodeSize ⌝ }
-    ensures { λ r. ⌜ r ≡ consumedAnswer (nodeOf (now (node .entry))) frame ⌝ }
+    ensures { λ r. ⌜ r ≡ consumedAnswer (layoutOf (now (node .entry))) frame ⌝ }
 {
     if (store::counts(node).frames as u64) <= frame {
         return 16;
     }
-    let h = store::head_at(node, frame as usize);
+    let h = store::frame_at(node, frame as usize);
     if !(h.direction == 1) {
         return 17;
     }
@@ -316,7 +349,9 @@ pub fn consumed(node: &mut [u8], frame: u64) -> u8
     if answer != 0 {
         return answer;
     }
-    move_fields(node, Owner::Frame(frame as u8), Change::Consume);
+    let owner = Owner::Frame(frame as u8);
+    let own = own_places(&node[..], owner);
+    move_fields(node, owner, own, Change::Consume);
     0
 }
 
@@ -324,18 +359,17 @@ pub fn consumed(node: &mut [u8], frame: u64) -> u8
 
 fn all_gone(node: &[u8], message: u8) -> bool
     requires { ⌜ (message < 32) × (length (now node) ≡ nodeSize) ⌝ }
-    ensures { λ r. ⌜ r ≡ allOf goneField (fieldsOf (nodeOf (now (node .entry))) (Owner.Message message)) ⌝ }
+    ensures { λ r. ⌜ r ≡ allOf (goneAt (stateOf (now (node .entry)))) (cellsOf (layoutOf (now (node .entry))) (Owner.Message message)) ⌝ }
 {
     let c = store::counts(node);
     let owner = Owner::Message(message);
-    let own = own_cells(node, owner);
+    let own = own_places(node, owner);
     let from = own.from;
     let end = own.end;
-    for d in from..end {
-        let x = store::field_at(node, d);
-        if does_belong(c, owner, x) {
-            let stage = x.stage;
-            if !message::stage_gone(stage) {
+    for i in from..end {
+        let d = own_cell(node, c, owner, i);
+        if d < 128 {
+            if !message::is_gone(store::field_at(node, d)) {
                 return false;
             }
         }
@@ -345,7 +379,7 @@ fn all_gone(node: &[u8], message: u8) -> bool
 
 fn flag_answer(node: &[u8], message: u64) -> u8
     requires { ⌜ length (now node) ≡ nodeSize ⌝ }
-    ensures { λ r. ⌜ r ≡ flagAnswer (nodeOf (now (node .entry))) message ⌝ }
+    ensures { λ r. ⌜ r ≡ flagAnswer (layoutOf (now (node .entry))) message ⌝ }
 {
     if (store::counts(node).messages as u64) <= message {
         return 16;
@@ -359,7 +393,7 @@ fn flag_answer(node: &[u8], message: u64) -> u8
 
 pub fn read_flag(node: &[u8], message: u64, flag: &mut u8) -> u8
     requires { ⌜ length (now node) ≡ nodeSize ⌝ }
-    ensures { λ r. ⌜ (r ≡ flagAnswer (nodeOf (now (node .entry))) message) × (now (flag .exit) ≡ flagPlace (nodeOf (now (node .entry))) message (now (flag .entry))) ⌝ }
+    ensures { λ r. ⌜ (r ≡ flagAnswer (layoutOf (now (node .entry))) message) × (now (flag .exit) ≡ flagPlace (nodeOf (now (node .entry))) message (now (flag .entry))) ⌝ }
 {
     let answer = flag_answer(node, message);
     if answer != 0 {
@@ -373,12 +407,12 @@ pub fn read_flag(node: &[u8], message: u64, flag: &mut u8) -> u8
 
 fn deliver_answer(node: &[u8], frame: u64, size: usize) -> u8
     requires { ⌜ length (now node) ≡ nodeSize ⌝ }
-    ensures { λ r. ⌜ r ≡ deliverAnswer (nodeOf (now (node .entry))) frame size ⌝ }
+    ensures { λ r. ⌜ r ≡ deliverAnswer (layoutOf (now (node .entry))) frame size ⌝ }
 {
     if (store::counts(node).frames as u64) <= frame {
         return 16;
     }
-    let h = store::head_at(node, frame as usize);
+    let h = store::frame_at(node, frame as usize);
     if h.direction == 1 {
         return 17;
     }
@@ -401,7 +435,7 @@ pub fn deliver(node: &mut [u8], frame: u64, valid: bool, bytes: &[u8]) -> u8
         let f = frame as usize;
         let n = least(bytes.len(), 32);
         store::put_data(&mut *node, f, &bytes[..n]);
-        store::put_delivered(node, f, 1);
+        store::put_mark(node, f, 1);
     }
     0
 }
@@ -419,7 +453,8 @@ fn receive_answer(node: &[u8], message: u64) -> u8
     if g.direction == 1 {
         return 17;
     }
-    g.status
+    let s = store::state_at(node, message as usize);
+    s.status
 }
 
 pub fn receive(node: &[u8], message: u64, value: &mut i64) -> u8
@@ -430,19 +465,24 @@ pub fn receive(node: &[u8], message: u64, value: &mut i64) -> u8
     if answer != 0 {
         return answer;
     }
-    let held = store::message_at(node, message as usize).held;
-    *value = held;
+    let m = message as usize;
+    let g = store::message_at(node, m);
+    let s = store::state_at(node, m);
+    *value = packing::value_of(s.held, 32, g.sign == 1);
     0
 }
 
 // ---- close
 
+// On any memory a field may name a frame that the memory has not: none came.
 fn did_come(node: &[u8], x: Field) -> bool
-    requires { ⌜ (x .frame < 32) × (length (now node) ≡ nodeSize) ⌝ }
-    ensures { λ r. ⌜ r ≡ came (nodeOf (now (node .entry))) x ⌝ }
+    requires { ⌜ length (now node) ≡ nodeSize ⌝ }
+    ensures { λ r. ⌜ r ≡ came (stateOf (now (node .entry))) x ⌝ }
 {
-    let h = store::head_at(node, x.frame as usize);
-    !(h.delivered == 0)
+    if x.frame < 32 {
+        return !(store::mark_at(node, x.frame as usize) == 0);
+    }
+    false
 }
 
 fn is_status_set(node: &[u8], x: Field) -> bool
@@ -453,12 +493,12 @@ fn is_status_set(node: &[u8], x: Field) -> bool
         return true;
     }
     let f = x.frame as usize;
-    let h = store::head_at(node, f);
+    let h = store::frame_at(node, f);
     packing::unpack(store::data_at(node, f), h.order == 1, x.place, 1) == 1
 }
 
 fn does_count(node: &[u8], x: Field) -> bool
-    requires { ⌜ (x .frame < 32) × (length (now node) ≡ nodeSize) ⌝ }
+    requires { ⌜ length (now node) ≡ nodeSize ⌝ }
     ensures { λ r. ⌜ r ≡ counts (nodeOf (now (node .entry))) x ⌝ }
 {
     if !did_come(node, x) {
@@ -472,26 +512,28 @@ fn value_in(node: &[u8], g: Message, x: Field) -> i64
     ensures { λ r. ⌜ r ≡ valueIn (nodeOf (now (node .entry))) g x ⌝ }
 {
     let f = x.frame as usize;
-    let h = store::head_at(node, f);
+    let h = store::frame_at(node, f);
     let n = store::data_length(h);
     let pattern = packing::unpack_in(store::room_at(node, f), n, h.order == 1, x.start, g.width);
     packing::value_of(pattern, g.width, g.sign == 1)
 }
 
 // The values of a message's counting instances go to the front of the array, in frame order; a message has at most eight fields.
-fn gather(node: &[u8], message: u8, g: Message, values: &mut [i64; 8]) -> usize
+fn gather(node: &[u8], message: u8, values: &mut [i64; 8]) -> usize
     requires { ⌜ (message < 32) × (length (now values) ≡ 8) × (length (now node) ≡ nodeSize) ⌝ }
-    ensures { λ r. ⌜ (r ≤ 8) × (length (now (values .exit)) ≡ 8) × (take r (now (values .exit)) ≡ instances (nodeOf (now (node .entry))) message g) ⌝ }
+    ensures { λ r. ⌜ (r ≤ 8) × (length (now (values .exit)) ≡ 8) × (take r (now (values .exit)) ≡ instances (nodeOf (now (node .entry))) message) ⌝ }
 {
     let c = store::counts(node);
     let owner = Owner::Message(message);
-    let own = own_cells(node, owner);
+    let g = store::message_at(node, message as usize);
+    let own = own_places(node, owner);
     let from = own.from;
     let end = own.end;
     let mut n = 0;
-    for d in from..end {
-        let x = store::field_at(node, d);
-        if does_belong(c, owner, x) {
+    for i in from..end {
+        let d = own_cell(node, c, owner, i);
+        if d < 128 {
+            let x = store::laid_at(node, d);
             if does_count(node, x) {
                 values[n] = value_in(node, g, x);
                 n += 1;
@@ -507,13 +549,13 @@ fn did_none_come(node: &[u8], message: u8) -> bool
 {
     let c = store::counts(node);
     let owner = Owner::Message(message);
-    let own = own_cells(node, owner);
+    let own = own_places(node, owner);
     let from = own.from;
     let end = own.end;
-    for d in from..end {
-        let x = store::field_at(node, d);
-        if does_belong(c, owner, x) {
-            if did_come(node, x) {
+    for i in from..end {
+        let d = own_cell(node, c, owner, i);
+        if d < 128 {
+            if did_come(node, store::laid_at(node, d)) {
                 return false;
             }
         }
@@ -521,38 +563,40 @@ fn did_none_come(node: &[u8], message: u8) -> bool
     true
 }
 
-fn closed_message(node: &[u8], message: u8, g: Message) -> Message
-    requires { ⌜ (message < 32) × (length (now node) ≡ nodeSize) ⌝ }
-    ensures { λ r. ⌜ r ≡ closedMessage (nodeOf (now (node .entry))) message g ⌝ }
+// The state of a message, which was s, after the round.
+fn closed_state(node: &[u8], message: u8, g: Message, s: MessageState) -> MessageState
+    requires { ⌜ (message < 32) × (g ≡ messageAt (layoutOf (now node)) message) × (length (now node) ≡ nodeSize) ⌝ }
+    ensures { λ r. ⌜ r ≡ closedState (nodeOf (now (node .entry))) message s ⌝ }
 {
     let mut values = [0i64; 8];
-    let n = gather(node, message, g, &mut values);
+    let n = gather(node, message, &mut values);
     if n == 0 {
         if did_none_come(node, message) {
-            return message::with_status(g, 21);
+            return message::with_status(s, 21);
         }
-        return message::with_status(g, 22);
+        return message::with_status(s, 22);
     }
-    message::agreed_message(g, message::agree_by(g, &values[..n]))
+    message::agreed_state(g, s, message::agree_by(g, &values[..n]))
 }
 
 fn close_messages(node: &mut [u8])
     requires { ⌜ length (now node) ≡ nodeSize ⌝ }
-    ensures { λ _. ⌜ nodeOf (now (node .exit)) ≡ closeMessages (nodeOf (now (node .entry))) ⌝ }
+    ensures { λ _. ⌜ nodeOf (now (node .exit)) ≡ nodeWith (nodeOf (now (node .entry))) (closeMessages (nodeOf (now (node .entry)))) ⌝ }
 {
     let messages = store::counts(&node[..]).messages;
     for m in 0..messages {
         let g = store::message_at(&node[..], m);
         if !(g.direction == 1) {
-            let h = closed_message(&node[..], m as u8, g);
-            store::put_message(&mut *node, m, h);
+            let s = store::state_at(&node[..], m);
+            let t = closed_state(&node[..], m as u8, g, s);
+            store::put_state(&mut *node, m, t);
         }
     }
 }
 
 fn forget_deliveries(node: &mut [u8])
     requires { ⌜ length (now node) ≡ nodeSize ⌝ }
-    ensures { λ _. ⌜ nodeOf (now (node .exit)) ≡ forget (nodeOf (now (node .entry))) ⌝ }
+    ensures { λ _. ⌜ nodeOf (now (node .exit)) ≡ nodeWith (nodeOf (now (node .entry))) (forget (layoutOf (now (node .entry))) (stateOf (now (node .entry)))) ⌝ }
 {
     let frames = store::counts(&node[..]).frames;
     for f in 0..frames {

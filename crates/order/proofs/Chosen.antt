@@ -1,79 +1,91 @@
--- More laws of `chosen`, by induction on the list. Of two lists, the chosen have the same values where the same elements pass. Of one, an element that is
--- chosen passes each test that all the chosen pass, and where they do not all pass, one of them has a number at which it fails.
+-- More laws of `chosen` and of a test of all, by induction on the list. Of two tests: where the same elements pass, the chosen have the same values.
+-- Of one: that all numbers of a list pass it is said number by number, and so is that not all fail it; then some are chosen. What is asked of all
+-- fields of a message or a frame is asked of its cells.
 -- Assumes nothing.
-use mathlib.Core.Path.{_≡_, refl}
-use mathlib.Core.Bool.{Bool, true, false, cond, true≢false, false≢true}
-use mathlib.Core.List.{List, [], _∷_, _++_, map}
-use Prim.Native.Nat.{ℕ, suc, _+_, _<_}
-use native.Mathlib.Nat.{add-zero, zero-add}
+use mathlib.Core.Path.{_≡_, refl, sym, ap₂, _∙_}
+use mathlib.Core.Bool.{Bool, true, false, not, and-eq-true-iff, true≢false}
+use mathlib.Core.List.{List, [], _∷_, map}
+use mathlib.Core.Logic.{_↔_}
+use Prim.Native.Nat.{ℕ, _<_}
 use native.Mathlib.Omega.{arith}
-use lib.ListN.{length, getD, take, drop}
+use lib.ListN.{length}
+use borrow.Author.Tests.{not-true, not-false}
 use Rattle.whole.specs.Whole.{allOf}
-use Rattle.record.proofs.Tests.{and-holds}
-use Rattle.node.specs.Own.{chosen}
-use Rattle.node.proofs.Lists.{same-test, Every, chosen-split}
+use Rattle.record.specs.declared.Field.{Field as FieldRecord}
+use Rattle.store.specs.Node.{Layout, laidAt}
+use Rattle.node.specs.declared.Owner.{Owner}
+use Rattle.node.specs.Own.{chosen, isIn, cellsOf, fieldsOf}
+use Rattle.node.proofs.Lists.{by-test, same-test, Every, every-map, every-in, every-number}
+use Rattle.node.proofs.Tables.{all-map}
 
--- ---- two lists
+-- ---- two tests
 
-module _ {A B : Type 0} (p p′ : ℕ → A → Bool) (v v′ : A → B) (d : A) where
-  chosen-from : (i : ℕ) (l l′ : List A) → length l ≡ length l′ → ((j : ℕ) → p (i + j) (getD l j d) ≡ p′ (i + j) (getD l′ j d))
-      → ((j : ℕ) → p (i + j) (getD l j d) ≡ true → v (getD l j d) ≡ v′ (getD l′ j d)) → map v (chosen p i l) ≡ map v′ (chosen p′ i l′)
-  unfolding chosen
-  chosen-from i [] [] e test value = refl
-  chosen-from i [] (y ∷ l′) e test value = absurd (omega arith)
-  chosen-from i (x ∷ l) [] e test value = absurd (omega arith)
-  chosen-from i (x ∷ l) (y ∷ l′) e test value =
-      let number : (j : ℕ) → suc i + j ≡ i + suc j = λ j. omega arith in
-      let later = chosen-from (suc i) l l′ (omega arith) (λ j. rw number (test (suc j))) (λ j t. value (suc j) (rw number at t)) in
-      let first : p i x ≡ p′ i y = rw add-zero at (test 0) in
-      rw (← first) (same-test (λ (k k′ : List A). map v k ≡ map v′ k′) (p i x) (λ t. cc (value 0 (rw add-zero t), later)) (λ t. later))
-
-  -- where the same elements of two lists pass the test, and those that pass have the same value, the chosen have the same values
-  pub chosen-alike : (l l′ : List A) → length l ≡ length l′ → ((j : ℕ) → p j (getD l j d) ≡ p′ j (getD l′ j d))
-      → ((j : ℕ) → p j (getD l j d) ≡ true → v (getD l j d) ≡ v′ (getD l′ j d)) → map v (chosen p 0 l) ≡ map v′ (chosen p′ 0 l′)
-  chosen-alike l l′ e test value = chosen-from 0 l l′ e (λ j. rw zero-add (test j)) (λ j t. value j (rw zero-add at t))
-
--- ---- one list
-
-passes-there : {A : Type 0} (q : A → Bool) (before : List A) (x : A) (after : List A) → allOf q (before ++ x ∷ after) ≡ true → q x ≡ true
-unfolding allOf
-passes-there q [] x after t = and-holds (q x) (allOf q after) .0 t .0
-passes-there q (a ∷ before) x after t = passes-there q before x after (and-holds (q a) (allOf q (before ++ x ∷ after)) .0 t .1)
-
-module _ {A : Type 0} (p : ℕ → A → Bool) (d : A) (l : List A) (j : ℕ) (room : j < length l) (t : p j (getD l j d) ≡ true) where
-  pub chosen-passes : (q : A → Bool) → allOf q (chosen p 0 l) ≡ true → q (getD l j d) ≡ true
-  chosen-passes q all =
-      passes-there q (chosen p 0 (take j l)) (getD l j d) (chosen p (suc j) (drop (suc j) l)) (rw (chosen-split p d l j room t) at all)
-
-  pub chosen-some : chosen p 0 l ≡ [] → ⊥
+module _ {A : Type 0} (p p′ : A → Bool) where
+  pub all-alike : (l : List A) → Every (λ x. p x ≡ p′ x) l → allOf p l ≡ allOf p′ l
   unfolding allOf
-  chosen-some none = false≢true (chosen-passes (λ x. false) (rw none refl))
+  all-alike [] h = refl
+  all-alike (x ∷ l) h = rw (h .0, all-alike l (h .1))
+
+  pub chosen-alike : {B : Type 0} (v v′ : A → B) (l : List A) → Every (λ x. (p x ≡ p′ x) × (p x ≡ true → v x ≡ v′ x)) l
+      → map v (chosen p l) ≡ map v′ (chosen p′ l)
+  unfolding chosen
+  chosen-alike v v′ [] h = refl
+  chosen-alike v v′ (x ∷ l) h =
+      let later = chosen-alike v v′ l (h .1) in
+      rw (← h .0 .0) (same-test (λ (k k′ : List A). map v k ≡ map v′ k′) (p x) (λ t. ap₂ _∷_ (h .0 .1 t) later) (λ t. later))
+
+-- ---- one test
+
+module _ {A : Type 0} (p : A → Bool) where
+  all-every : (l : List A) → (allOf p l ≡ true) ↔ Every (λ x. p x ≡ true) l
+  unfolding allOf
+  all-every [] = (λ t. tt, λ h. refl)
+  all-every (x ∷ l) =
+      let later = all-every l in
+      (λ t. let both = and-eq-true-iff (p x) (allOf p l) .0 t in (both .0, later .0 (both .1)), λ h. rw (h .0) (later .1 (h .1)))
+
+  one-fails : (P : A → Type 0) (l : List A) → Every P l → allOf p l ≡ false → (x : A) × P x × (p x ≡ false)
+  unfolding allOf
+  one-fails P [] h t = absurd (true≢false t)
+  one-fails P (x ∷ l) h t = go (p x) refl (one-fails P l (h .1))
+    where
+      go : (b : Bool) → p x ≡ b → (allOf p l ≡ false → (y : A) × P y × (p y ≡ false)) → (y : A) × P y × (p y ≡ false)
+      go true e later = later (rw e at t)
+      go false e later = (x, h .0, e)
+
+  -- not all fail: some are chosen
+  pub chosen-some : (l : List A) → allOf (λ x. not (p x)) l ≡ false → 0 < length (chosen p l)
+  unfolding allOf chosen
+  chosen-some [] t = absurd (true≢false t)
+  chosen-some (x ∷ l) t = by-test (λ (k : List A). 0 < length k) (p x) (λ e. omega arith) (λ e. chosen-some l (rw e at t))
 
 pub no-element : {A : Type 0} (l : List A) → Every (λ x. ⊥) l → l ≡ []
 no-element [] h = refl
 no-element (x ∷ l) h = absurd (h .0)
 
-module _ {A : Type 0} (p : ℕ → A → Bool) (d : A) (q : A → Bool) where
-  -- one of the chosen fails the test q; numbers count from i
-  abbrev Failing : ℕ → List A → Type 0
-  Failing i l = (j : ℕ) × (p (i + j) (getD l j d) ≡ true) × (q (getD l j d) ≡ false)
+module _ (p : ℕ → Bool) (l : List ℕ) where
+  pub all-in : (allOf p l ≡ true) ↔ ((d : ℕ) → isIn d l ≡ true → p d ≡ true)
+  all-in = (
+    λ t d i. every-in (λ d. p d ≡ true) l d (all-every p l .0 t) i,
+    λ h. all-every p l .1 (every-number (λ d. p d ≡ true) l h),
+  )
 
-  fails-from : (i : ℕ) (l : List A) → allOf q (chosen p i l) ≡ false → Failing i l
-  unfolding chosen allOf
-  fails-from i [] t = absurd (true≢false t)
-  fails-from i (x ∷ l) t = go (p i x) (q x) refl refl (fails-from (suc i) l) t
-    where
-      later : Failing (suc i) l → Failing i (x ∷ l)
-      later (j, passes, fails) = let number : suc i + j ≡ i + suc j = omega arith in (suc j, rw number at passes, fails)
+some-in : (p : ℕ → Bool) (l : List ℕ) → (allOf (λ d. not (p d)) l ≡ false) ↔ ((d : ℕ) × (isIn d l ≡ true) × (p d ≡ true))
+some-in p l = (
+  λ t. let (d, i, e) = one-fails (λ d. not (p d)) (λ d. isIn d l ≡ true) l (every-number _ l (λ d i. i)) t in (d, i, not-false (p d) e),
+  λ h. go (allOf (λ d. not (p d)) l) refl (h .0) (h .1) (h .2),
+)
+  where
+    go : (b : Bool) → allOf (λ d. not (p d)) l ≡ b → (d : ℕ) → isIn d l ≡ true → p d ≡ true → b ≡ false
+    go true t d i e = absurd (true≢false (sym e ∙ not-true (p d) (all-in (λ d. not (p d)) l .0 t d i)))
+    go false t d i e = refl
 
-      go : (a b : Bool) → p i x ≡ a → q x ≡ b → (allOf q (chosen p (suc i) l) ≡ false → Failing (suc i) l)
-          → allOf q (cond a (x ∷ chosen p (suc i) l) (chosen p (suc i) l)) ≡ false → Failing i (x ∷ l)
-      go true true e k rest t = later (rest (rw k at t))
-      go true false e k rest t = (0, rw add-zero e, k)
-      go false b e k rest t = later (rest t)
+-- ---- the fields in cells
 
-  pub chosen-fails : (l : List A) → allOf q (chosen p 0 l) ≡ false → (j : ℕ) × (p j (getD l j d) ≡ true) × (q (getD l j d) ≡ false)
-  chosen-fails l t =
-      let (j, passes, fails) = fails-from 0 l t in
-      let number : 0 + j ≡ j = omega arith in
-      (j, rw number at passes, fails)
+module _ (l : Layout) (o : Owner) where
+  pub each-field : (P : FieldRecord → Type 0) → ((d : ℕ) → isIn d (cellsOf l o) ≡ true → P (laidAt l d)) → Every P (fieldsOf l o)
+  each-field P h = every-map (laidAt l) P (cellsOf l o) (every-number (λ d. P (laidAt l d)) (cellsOf l o) h)
+
+  pub some-field : (p : FieldRecord → Bool)
+      → (allOf (λ x. not (p x)) (fieldsOf l o) ≡ false) ↔ ((d : ℕ) × (isIn d (cellsOf l o) ≡ true) × (p (laidAt l d) ≡ true))
+  some-field p = rw (all-map (laidAt l) (λ x. not (p x)) (cellsOf l o)) (some-in (λ d. p (laidAt l d)) (cellsOf l o))

@@ -1,10 +1,13 @@
 -- The theorems on all calls together, each from the file that proves it.
 -- Assumes nothing.
+use Rattle.node.proofs.Closed.{delivery-closed}
+use Rattle.node.proofs.Owners.{fields-named}
 use Rattle.order.specs.Claims.{Claims}
 use Rattle.order.proofs.OrderOfCalls.{order-of-calls}
 use Rattle.order.proofs.Once.{once}
+use Rattle.order.proofs.Memories.{layout-kept}
 use Rattle.order.proofs.OwnBits.{own-bits, own-values}
-use Rattle.order.proofs.EachRound.{each-round, forgotten}
+use Rattle.order.proofs.EachRound.{each-round}
 use Rattle.order.proofs.FlagHistory.{flag-history}
 use Rattle.order.proofs.ThereAndBack.{sent-received, invalid-received}
 use Rattle.order.proofs.Floats.{floats-agree, all-aside, mean-shown}
@@ -15,10 +18,12 @@ claims =
     record {
       order-of-calls = order-of-calls;
       once = once;
+      layout-kept = layout-kept;
+      own-fields = λ n s. fields-named (s .layout);
       own-bits = λ n n′ s s′. own-bits s s′;
       own-values = λ n n′ s s′. own-values s s′;
       each-round = λ n n′ s s′. each-round s s′;
-      forgotten = λ n s. forgotten s;
+      forgotten = λ n s. delivery-closed s;
       flag-history = λ n s. flag-history s;
       sent-received = λ s r sender receiver mirror f m carried fresh v sent passes b ok p.
           sent-received sender receiver mirror f m carried b fresh p v sent passes ok;

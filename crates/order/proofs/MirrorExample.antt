@@ -11,9 +11,10 @@ use Rattle.whole.specs.Whole.{allOf}
 use Rattle.packing.specs.Values.{isWidth, least, greatest, inRange, extend, extended}
 use Rattle.filter.specs.Filter.{rules, passes}
 use Rattle.record.specs.Numbers.{tally, anyBelow, leastBelow}
-use Rattle.record.specs.Records.{byteAt, wordAt, isFrame, isMessage, isField, frameAt, messageAt, fieldAt, pairBelow}
-use Rattle.record.specs.Ranges.{wrongIf, wordFits, wordFinding, frameFinding, messageFinding, fieldFinding, findingOf, findingAt, wrongAt, lowestFault, rangeFault}
-use Rattle.record.specs.Runs.{pastEnd, meet, clash}
+use Rattle.record.specs.Records.{byteAt, wordAt, isFrame, isMessage, isField, frameAt, messageAt, fieldAt}
+use Rattle.record.specs.Ranges.{wrongIf, wordFits, wordFinding, frameFinding, messageFinding, fieldFinding}
+use Rattle.record.specs.Ranges.{findingOf, findingAt, wrongAt, lowestFault, rangeFault}
+use Rattle.record.specs.Runs.{pastEnd, meet}
 use Rattle.layout.specs.Counts.{countsBefore}
 use Rattle.layout.specs.Verdict.{
   sizeFault,
@@ -28,16 +29,32 @@ use Rattle.layout.specs.Verdict.{
   noField,
   complete,
   failsAt,
-  refusalAt,
   judged,
   verdict,
 }
 use Rattle.layout.specs.declared.Verdict.{Verdict}
 use Rattle.layout.proofs.Examples.{filled}
 use Rattle.store.specs.Node.{Node}
-use Rattle.store.specs.Start.{table, startHead, startField, startMessage, startMessageOrNone, startFrames, startMessages, startFields, startOf}
-use Rattle.message.specs.Messages.{canHold, passesNow, offered}
-use Rattle.node.specs.Own.{chosen, changed, belongs, own}
+use Rattle.store.specs.Start.{
+  table,
+  selected,
+  laidFrame,
+  frameByFrame,
+  startMessage,
+  startMessageOrNone,
+  stateOrNone,
+  startLaid,
+  startFrames,
+  startIndex,
+  startMessages,
+  startStates,
+  startFields,
+  startLayout,
+  startState,
+  startOf,
+}
+use Rattle.message.specs.Messages.{canHold, passesNow}
+use Rattle.node.specs.Own.{chosen, owns, cellsOf}
 use Rattle.node.specs.Calls.{sendAnswer, sendOf, suppressed, assembleAnswer, assembleOf, assembled}
 use Rattle.node.specs.Closing.{came, noneCame}
 use Rattle.node.specs.Load.{loadOf}
@@ -56,11 +73,11 @@ accepted : (verdict (file 0) ≡ Verdict.Accepted 1 1 1) × (verdict (file 1) �
 unfolding
     file filled
     extended isWidth extend
-    tally anyBelow leastBelow
+    tally anyBelow
     byteAt wordAt isFrame isMessage isField frameAt messageAt fieldAt countsBefore
     wrongIf wordFits wordFinding frameFinding messageFinding fieldFinding findingOf findingAt wrongAt lowestFault rangeFault
-    sizeFault pairBelow orderFault refFault isFieldOf unlike groupFault
-    pastEnd meet clash clashAt placeFault fails noField complete failsAt refusalAt judged verdict
+    sizeFault orderFault refFault isFieldOf unlike groupFault
+    pastEnd meet clashAt placeFault fails noField complete failsAt judged verdict
 accepted = (refl, refl)
 
 -- the node at start
@@ -73,10 +90,10 @@ sound k e =
     let load : loadOf (node k) (file k) ≡ record { answer = 0; node = node k } = rw e refl in
     rw load at (sound-load (node k) (file k) (rw load refl))
 
-mirror : Mirrors (node 1) (node 0)
+mirror : Mirrors (node 1 .layout) (node 0 .layout)
 unfolding
-    node file filled tally anyBelow leastBelow byteAt wordAt frameAt messageAt fieldAt
-    startOf startFrames startMessages startFields table startHead startMessageOrNone startMessage startField
+    node file filled byteAt frameAt messageAt fieldAt
+    startLayout startFrames startMessages startFields table laidFrame startMessageOrNone startMessage startLaid
 mirror =
     record {
       frame-number = refl;
@@ -88,15 +105,11 @@ mirror =
           (record {
             width = refl;
             sign = refl;
-            statusbit = refl;
-            first = refl;
-            fields = refl;
             direction = refl;
             agreement = refl;
             filter = refl;
           });
-      fields = λ d l. let first : d ≡ 0 = omega arith in
-          rw first (record { message = refl; frame = refl; start = refl; status = refl; place = refl });
+      fields = λ d l. let first : d ≡ 0 = omega arith in rw first refl;
     }
 
 -- 677 is sent, assembled into two bytes of zeros, delivered, and received; from the sender at start, whose message is invalid, the answer is 22
@@ -106,9 +119,10 @@ pub played : (p : ℤ)
     × (seenOf (final (node 0) (deliver 0 true (assembled (node 1) 0 (0 ∷ 0 ∷ [])) ∷ close ∷ [])) (receive 0 p)
     ≡ record { answer = 22; lent = value p })
 unfolding
-    node file filled tally anyBelow leastBelow byteAt wordAt frameAt messageAt fieldAt
-    startOf startFrames startMessages startFields table startHead startMessageOrNone startMessage startField
-    chosen changed own belongs someOf allOf sendOf sendAnswer canHold inRange isWidth least greatest offered passesNow passes rules
+    node file filled tally anyBelow leastBelow byteAt frameAt messageAt fieldAt
+    startLayout startState startFrames startIndex startMessages startStates startFields
+    table selected laidFrame frameByFrame startMessageOrNone startMessage stateOrNone startLaid
+    chosen cellsOf owns someOf allOf sendOf sendAnswer canHold inRange isWidth least greatest passesNow passes rules
     assembleOf assembleAnswer suppressed noneCame came
 played p =
     let sender = sound 1 (accepted .1) in

@@ -6,7 +6,7 @@ use mathlib.Core.Path.{_≡_, refl, sym, ap, _∙_}
 use mathlib.Core.Bool.{true, cond, false≢true}
 use mathlib.Core.List.{List, [], _∷_}
 use mathlib.Core.Logic.{_↔_, ⊎-elim}
-use Prim.Native.Nat.{ℕ}
+use Prim.Native.Nat.{ℕ, _<_}
 use native.Mathlib.Omega.{arith}
 use lib.Dec.{eqb}
 use lib.IntN.{ℤ}
@@ -14,24 +14,23 @@ use lib.ListN.{length}
 use borrow.Author.Tests.{eqb-true, eq-eqb}
 use Rattle.store.specs.declared.Stage.{Stage}
 use Rattle.store.specs.declared.Stage.the-variants.{Waiting, Loaded, Gone}
-use Rattle.store.specs.declared.Field.{Field}
-use Rattle.store.specs.Node.{Node, fieldAt, noField}
+use Rattle.store.specs.Node.{State, Node, laidAt, stageAt, noStage}
 use Rattle.message.specs.declared.Change.{Change}
-use Rattle.message.specs.Fields.{staged, stageAfter, isGone, goneField}
+use Rattle.message.specs.Fields.{stageAfter, isGone}
 use Rattle.node.specs.declared.Owner.{Owner}
-use Rattle.node.specs.Own.{names, own}
+use Rattle.node.specs.Own.{isIn, names, cellsOf}
 use Rattle.node.specs.Calls.{outcome, moved, sendAnswer, sendOf, invalidateAnswer, invalidateOf}
-use Rattle.node.specs.Calls.{assembleAnswer, assembleOf, consumedAnswer, consumedOf, deliverAnswer, deliverOf}
+use Rattle.node.specs.Calls.{assembleAnswer, assembleOf, consumedAnswer, consumedOf, goneAt, deliverAnswer, deliverOf}
 use Rattle.node.specs.Closing.{closeMessages, forget, closeOf}
 use Rattle.node.specs.Sound.{Sound}
 use Rattle.node.proofs.Lists.{by-test, changed-at}
 use Rattle.node.proofs.Owners.{fields-named}
 use Rattle.order.specs.Runs.{Call, send, invalidate, assemble, consumed, readFlag, deliver, close, receive, answerOf, next, final}
-use Rattle.order.specs.Order.{In, here, there, Before, first, later}
+use Rattle.order.specs.Order.{In, here, there, first, later}
 use Rattle.order.specs.Flag.{Answered, withAnswer, done, answered, Sent, GoesOut}
 use Rattle.order.proofs.Among.{in-none, in-cases, before-in, before-cases}
-use Rattle.order.proofs.Bare.{kept-layout, kept-sound}
-use Rattle.order.proofs.Carried.{FieldOf, field-stays}
+use Rattle.order.proofs.Kept.{kept-layout, kept-sound}
+use Rattle.order.proofs.Carried.{FieldOf}
 
 -- ---- one call
 
@@ -65,54 +64,56 @@ by-done n a P h c e =
     let answer : answerOf n c ≡ 0 = sym (ap (λ (k : Answered). k .answer) e) in
     rw call at (h (rw call answer))
 
-module _ {n : Node} {d m f : ℕ} (s : Sound n) (x : FieldOf n d m f) where
+module _ {n : Node} {d m f : ℕ} (s : Sound n) (x : FieldOf (n .layout) d m f) where
   abbrev stage : Stage
-  stage = fieldAt n d .stage
+  stage = stageAt (n .state) d
 
-  moved-at : (k : Change) (o : Owner)
-      → fieldAt (moved k o n) d ≡ cond (own n o d (fieldAt n d)) (staged (stageAfter k stage) (fieldAt n d)) (fieldAt n d)
-  moved-at k o = changed-at (own n o) _ (n .fields) d noField (omega arith)
+  moved-at : (k : Change) (o : Owner) → stageAt (moved k o n) d ≡ cond (isIn d (cellsOf (n .layout) o)) (stageAfter k stage) stage
+  moved-at k o =
+      let room : d < length (n .state .stages) = omega (arith, x .known, s .layout .few-fields, s .state .stage-cells) in
+      changed-at _ _ (n .state .stages) d noStage room
 
   -- the fields of an owner move on
-  moved-own : (k : Change) (o : Owner) → names o (fieldAt n d) ≡ true → fieldAt (moved k o n) d .stage ≡ stageAfter k stage
-  moved-own k o t = rw (moved-at k o, fields-named s d o .1 (x .known, t)) refl
+  moved-own : (k : Change) (o : Owner) → names o (laidAt (n .layout) d) ≡ true → stageAt (moved k o n) d ≡ stageAfter k stage
+  moved-own k o t = rw (moved-at k o, fields-named (s .layout) o d .1 (x .known, t)) refl
 
-  -- the call takes it to its stage in node r
-  abbrev To : Call → Node → Type 0
-  To c r = Takes m f n c stage (fieldAt r d .stage)
+  -- the call takes it to its stage in state r
+  abbrev To : Call → State → Type 0
+  To c r = Takes m f n c stage (stageAt r d)
 
   -- all others stay, and so do all if the call is refused
-  by-owner : (c : Call) (k : Change) (o : Owner) → (names o (fieldAt n d) ≡ true → Takes m f n c stage (stageAfter k stage)) → To c (moved k o n)
+  by-owner : (c : Call) (k : Change) (o : Owner) → (names o (laidAt (n .layout) d) ≡ true → Takes m f n c stage (stageAfter k stage))
+      → To c (moved k o n)
   by-owner c k o mine =
       rw (moved-at k o)
-      (by-test (λ (y : Field). Takes m f n c stage (y .stage)) (own n o d (fieldAt n d)) (λ t. mine (fields-named s d o .0 t .1)) (λ t. stays))
+      (by-test (Takes m f n c stage) (isIn d (cellsOf (n .layout) o)) (λ t. mine (fields-named (s .layout) o d .0 t .1)) (λ t. stays))
 
-  by-answer : (c : Call) (a : ℕ) (r : Node) → (a ≡ 0 → To c r) → To c (outcome a r n .node)
+  by-answer : (c : Call) (a : ℕ) (r : State) → (a ≡ 0 → To c r) → To c (outcome a r n .node .state)
   by-answer c a r h = by-test (To c) (eqb a 0) (λ t. h (eqb-true a 0 t)) (λ t. stays)
 
-  takes : (c : Call) → To c (next n c)
+  takes : (c : Call) → To c (next n c .state)
   unfolding sendOf invalidateOf assembleOf consumedOf deliverOf closeOf closeMessages forget
   takes (send i v) =
-      by-answer (send i v) (sendAnswer n i v) _
+      by-answer (send i v) (sendAnswer (n .layout) i v) _
       (λ a. by-owner (send i v) Change.Send (Owner.Message i)
       (λ t. let mine : i ≡ m = sym (eqb-true _ i t) ∙ x .message in rw mine (send-takes stage (rw mine at a))))
-  takes (invalidate i) = by-answer (invalidate i) (invalidateAnswer n i) _ (λ a. stays)
+  takes (invalidate i) = by-answer (invalidate i) (invalidateAnswer (n .layout) i) _ (λ a. stays)
   takes (assemble i b) =
       by-answer (assemble i b) (assembleAnswer n i (length b)) _
       (λ a. by-owner (assemble i b) Change.Load (Owner.Frame i)
       (λ t. let mine : i ≡ f = sym (eqb-true _ i t) ∙ x .frame in rw mine (assemble-takes stage (rw mine at a))))
   takes (consumed i) =
-      by-answer (consumed i) (consumedAnswer n i) _
+      by-answer (consumed i) (consumedAnswer (n .layout) i) _
       (λ a. by-owner (consumed i) Change.Consume (Owner.Frame i)
       (λ t. let mine : i ≡ f = sym (eqb-true _ i t) ∙ x .frame in rw mine (consumed-takes stage (rw mine at a))))
   takes (readFlag i p) = stays
   takes (deliver i valid b) =
-      by-answer (deliver i valid b) (deliverAnswer n i (length b)) _ (λ a. by-test (To (deliver i valid b)) valid (λ t. stays) (λ t. stays))
+      by-answer (deliver i valid b) (deliverAnswer (n .layout) i (length b)) _ (λ a. by-test (To (deliver i valid b)) valid (λ t. stays) (λ t. stays))
   takes close = stays
   takes (receive i p) = stays
 
   -- the calls that move it
-  pub send-waiting : (v : ℤ) → answerOf n (send m v) ≡ 0 → fieldAt (next n (send m v)) d .stage ≡ Waiting
+  pub send-waiting : (v : ℤ) → answerOf n (send m v) ≡ 0 → stageAt (next n (send m v) .state) d ≡ Waiting
   unfolding sendOf
   send-waiting v a = rw a (moved-own Change.Send (Owner.Message m) (eq-eqb _ m (x .message)) ∙ waiting stage)
     where
@@ -121,16 +122,16 @@ module _ {n : Node} {d m f : ℕ} (s : Sound n) (x : FieldOf n d m f) where
       waiting Loaded = refl
       waiting (Gone k) = refl
 
-  assemble-loads : (b : List ℕ) (c : Call) → done (assemble f b) ≡ withAnswer n c → fieldAt (next n c) d .stage ≡ stageAfter Change.Load stage
+  assemble-loads : (b : List ℕ) (c : Call) → done (assemble f b) ≡ withAnswer n c → stageAt (next n c .state) d ≡ stageAfter Change.Load stage
   unfolding assembleOf
   assemble-loads b =
-      by-done n (assemble f b) (λ (c : Call). fieldAt (next n c) d .stage ≡ stageAfter Change.Load stage)
+      by-done n (assemble f b) (λ (c : Call). stageAt (next n c .state) d ≡ stageAfter Change.Load stage)
       (λ a. rw a (moved-own Change.Load (Owner.Frame f) (eq-eqb _ f (x .frame))))
 
-  consumed-goes : (c : Call) → done (consumed f) ≡ withAnswer n c → fieldAt (next n c) d .stage ≡ stageAfter Change.Consume stage
+  consumed-goes : (c : Call) → done (consumed f) ≡ withAnswer n c → stageAt (next n c .state) d ≡ stageAfter Change.Consume stage
   unfolding consumedOf
   consumed-goes =
-      by-done n (consumed f) (λ (c : Call). fieldAt (next n c) d .stage ≡ stageAfter Change.Consume stage)
+      by-done n (consumed f) (λ (c : Call). stageAt (next n c .state) d ≡ stageAfter Change.Consume stage)
       (λ a. rw a (moved-own Change.Consume (Owner.Frame f) (eq-eqb _ f (x .frame))))
 
 -- ---- all calls of a list
@@ -155,8 +156,8 @@ module _ (l : List Call) where
   further latest stays g = g
 
   -- what the calls hold for a stage, those after the first hold for the stage that the first takes it to
-  after : {d m f : ℕ} {n : Node} {c : Call} → Sound n → FieldOf n d m f → (Sent n m (c ∷ l) → ⊥)
-      → (t : Stage) → fieldAt n d .stage ≡ t → Goes t n f (c ∷ l) → Goes (fieldAt (next n c) d .stage) (next n c) f l
+  after : {d m f : ℕ} {n : Node} {c : Call} → Sound n → FieldOf (n .layout) d m f → (Sent n m (c ∷ l) → ⊥)
+      → (t : Stage) → stageAt (n .state) d ≡ t → Goes t n f (c ∷ l) → Goes (stageAt (next n c .state) d) (next n c) f l
   after {c = c} s x latest Waiting e g =
       ⊎-elim (λ now. rw (assemble-loads s x (g .0) c (now .0), e) (now .1)) (λ k. further latest (rw e at (takes s x c)) (g .0, k))
       (before-cases (g .1))
@@ -173,9 +174,10 @@ module _ (l : List Call) where
   before latest (stays {s = Loaded}) i = there i
   before latest (stays {s = Gone k}) u = tt
 
-pub field-history : {d m f : ℕ} {n : Node} → Sound n → FieldOf n d m f → (l : List Call) → (Sent n m l → ⊥)
-    → (goneField (fieldAt (final n l) d) ≡ true) ↔ Goes (fieldAt n d .stage) n f l
-field-history {d} {m} {f} {n} s x [] latest = at-end n f (fieldAt n d .stage)
+pub field-history : {d m f : ℕ} {n : Node} → Sound n → FieldOf (n .layout) d m f → (l : List Call) → (Sent n m l → ⊥)
+    → (goneAt (final n l .state) d ≡ true) ↔ Goes (stageAt (n .state) d) n f l
+field-history {d} {m} {f} {n} s x [] latest = at-end n f (stageAt (n .state) d)
 field-history {d} {m} {f} {n} s x (c ∷ l) latest =
-    let rest = field-history (kept-sound s c) (field-stays (kept-layout n c) x) l (λ t. latest (t .0, there (t .1))) in
-    (λ t. before l latest (takes s x c) (rest .0 t), λ g. rest .1 (after l s x latest (fieldAt n d .stage) refl g))
+    let kept : FieldOf (next n c .layout) d m f = rw (kept-layout n c) x in
+    let rest = field-history (kept-sound s c) kept l (λ t. latest (t .0, there (t .1))) in
+    (λ t. before l latest (takes s x c) (rest .0 t), λ g. rest .1 (after l s x latest (stageAt (n .state) d) refl g))

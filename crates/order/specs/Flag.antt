@@ -36,7 +36,7 @@ GoesOut n f l = (b : List ℕ) × Before (done (assemble f b)) (done (consumed f
 
 -- each frame that carries message m goes out
 abbrev pub AllOut : Node → ℕ → List Call → Type 0
-AllOut n m l = (f : ℕ) → carries n f m ≡ true → GoesOut n f l
+AllOut n m l = (f : ℕ) → carries (n .layout) f m ≡ true → GoesOut n f l
 
 -- the caller of read flag sees answer 0, and k in its place: 1 is set, 0 is cleared
 abbrev pub shows : ℕ → Seen

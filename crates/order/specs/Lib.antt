@@ -1,5 +1,4 @@
 pub mod Runs
-pub mod Bare
 pub mod Order
 pub mod Once
 pub mod Own

@@ -8,6 +8,7 @@ use lib.Dec.{T}
 use lib.Ieee.{binary32, fits}
 use lib.IntN.{ℤ}
 use lib.ListN.{length, take}
+use Rattle.whole.specs.Whole.{word}
 use Rattle.packing.specs.Places.{placesIn, packed, unpacked}
 use Rattle.packing.specs.Values.{inRange, valueOf, patternOf, extended}
 use Rattle.float.specs.Patterns.{aside, rankOf}
@@ -28,21 +29,46 @@ use Rattle.record.specs.declared.Record.{Record}
 use Rattle.record.specs.declared.RangeFault.{RangeFault}
 use Rattle.record.specs.declared.Run.{Run}
 use Rattle.layout.specs.Numbers.{numberOf, byteOf}
-use Rattle.layout.specs.Verdict.{fieldsOf, verdict}
+use Rattle.layout.specs.Verdict.{verdict}
 use Rattle.layout.specs.declared.Refusal.{Refusal}
 use Rattle.layout.specs.declared.Verdict.{Verdict}
 use Rattle.layout.specs.declared.Counts.{Counts}
 use Rattle.listing.specs.Put.{Put}
 use Rattle.listing.specs.Text.{listing}
 use Rattle.store.specs.declared.Stage.{Stage}
-use Rattle.store.specs.declared.Head.{Head}
+use Rattle.store.specs.declared.Frame.{Frame}
 use Rattle.store.specs.declared.Message.{Message}
+use Rattle.store.specs.declared.MessageState.{MessageState}
 use Rattle.store.specs.declared.Field.{Field}
-use Rattle.store.specs.Node.{nodeOf, roomOf, countsOf, frameAt, messageAt, fieldAt, dataOf, marked, filled, undelivered, withFrame, withMessage, withField}
+use Rattle.store.specs.Node.{
+  layoutOf,
+  stateOf,
+  nodeOf,
+  roomOf,
+  countsOf,
+  frameAt,
+  messageAt,
+  laidAt,
+  listedAt,
+  deliveryAt,
+  stateAt,
+  fieldAt,
+  dataAt,
+  noMessage,
+  noDelivery,
+  noState,
+  marked,
+  filled,
+  withStatus,
+  withDelivery,
+  withState,
+  withStage,
+  nodeWith,
+}
 use Rattle.store.specs.Start.{startOf}
 use Rattle.message.specs.declared.Change.{Change}
-use Rattle.message.specs.Messages.{canHold, offered, invalidated, withStatus, agreedBy, agreedOn}
-use Rattle.message.specs.Fields.{staged, stageAfter, isGone, writes}
+use Rattle.message.specs.Messages.{canHold, offered, invalidated, agreedBy, agreedOn}
+use Rattle.message.specs.Fields.{stageAfter, isGone, writes}
 use Rattle.node.specs.Calls.{left}
 use Rattle.node.specs.Load.{loadOf}
 use Rattle.order.specs.Runs.{Call, Seen, Memory, Does}
@@ -71,6 +97,7 @@ pub record Once : Type 0 where
   pub in-range : (value : ℤ) (width : ℕ) (signed : Bool) → Single (λ (r : Bool). r ≡ inRange signed width value)
   pub value-of : (pattern width : ℕ) (signed : Bool) → Single (λ (r : ℤ). r ≡ valueOf signed width pattern)
   pub pattern-of : (value : ℤ) → Single (λ (r : ℕ). r ≡ patternOf 32 value)
+  pub word-of : (a b c d : ℕ) → Single (λ (r : ℕ). r ≡ word a b c d)
   pub is-extended : (pattern width : ℕ) (signed : Bool) → Single (λ (r : Bool). r ≡ extended signed width pattern)
   -- float; a value of type f32 has a pattern of its own
   pub is-aside : (x : ℕ) → Single (λ (r : Bool). r ≡ aside x)
@@ -98,35 +125,43 @@ pub record Once : Type 0 where
   -- layout
   pub number-of : (n : Refusal) → Single (λ (r : ℕ). r ≡ numberOf n)
   pub byte-of : (n : Refusal) → Single (λ (r : ℕ). r ≡ byteOf n)
-  pub fields-of : (file : List ℕ) (m n : ℕ) → Single (λ (r : ℕ). r ≡ fieldsOf file m n)
   pub read-layout : (file : List ℕ) → Single (λ (v : Verdict). v ≡ verdict file)
   -- store
-  pub counts : (b : List ℕ) → Single (λ (r : Counts). r ≡ countsOf (nodeOf b))
-  pub head-at : (b : List ℕ) (f : ℕ) → Single (λ (r : Head). r ≡ frameAt (nodeOf b) f .head)
-  pub data-at : (b : List ℕ) (f : ℕ) → Single (λ (r : List ℕ). r ≡ dataOf (frameAt (nodeOf b) f))
+  pub no-message : Single (λ (r : Message). r ≡ noMessage)
+  pub no-state : Single (λ (r : MessageState). r ≡ noState)
+  pub counts : (b : List ℕ) → Single (λ (r : Counts). r ≡ countsOf (layoutOf b))
+  pub frame-at : (b : List ℕ) (f : ℕ) → Single (λ (r : Frame). r ≡ frameAt (layoutOf b) f)
+  pub message-at : (b : List ℕ) (m : ℕ) → Single (λ (r : Message). r ≡ messageAt (layoutOf b) m)
+  pub laid-at : (b : List ℕ) (d : ℕ) → Single (λ (r : FieldRecord). r ≡ laidAt (layoutOf b) d)
+  pub listed-at : (b : List ℕ) (i : ℕ) → Single (λ (r : ℕ). r ≡ listedAt (layoutOf b) i)
+  pub mark-at : (b : List ℕ) (f : ℕ) → Single (λ (r : ℕ). r ≡ deliveryAt (stateOf b) f .delivered)
+  pub data-length : (h : Frame) → Single (λ (r : ℕ). r ≡ min (h .length) 32)
+  pub data-at : (b : List ℕ) (f : ℕ) → Single (λ (r : List ℕ). r ≡ dataAt (nodeOf b) f)
   pub room-at : (b : List ℕ) (f : ℕ) → Single (λ (r : List ℕ). r ≡ roomOf b f)
-  pub data-length : (h : Head) → Single (λ (r : ℕ). r ≡ min (h .length) 32)
-  pub message-at : (b : List ℕ) (m : ℕ) → Single (λ (r : Message). r ≡ messageAt (nodeOf b) m)
+  pub state-at : (b : List ℕ) (m : ℕ) → Single (λ (r : MessageState). r ≡ stateAt (stateOf b) m)
   pub field-at : (b : List ℕ) (d : ℕ) → Single (λ (r : Field). r ≡ fieldAt (nodeOf b) d)
-  pub put-delivered : (b : List ℕ) (f k : ℕ)
-      → Single (λ (e : List ℕ). Memory e × (nodeOf e ≡ withFrame (nodeOf b) f (marked k (frameAt (nodeOf b) f))))
+  pub put-mark : (b : List ℕ) (f k : ℕ)
+      → Single (λ (e : List ℕ). Memory e × (nodeOf e ≡ nodeWith (nodeOf b) (withDelivery (stateOf b) f (marked k (deliveryAt (stateOf b) f)))))
   pub put-data : (b : List ℕ) (f : ℕ) (bytes : List ℕ)
-      → Single (λ (e : List ℕ). Memory e × (nodeOf e ≡ withFrame (nodeOf b) f (filled (frameAt (nodeOf b) f) bytes)))
-  pub forget-delivery : (b : List ℕ) (f : ℕ) → Single (λ (e : List ℕ). Memory e × (nodeOf e ≡ withFrame (nodeOf b) f (undelivered (frameAt (nodeOf b) f))))
-  pub put-message : (b : List ℕ) (m : ℕ) (g : Message) → Single (λ (e : List ℕ). Memory e × (nodeOf e ≡ withMessage (nodeOf b) m g))
-  pub put-field : (b : List ℕ) (d : ℕ) (x : Field) → Single (λ (e : List ℕ). Memory e × (nodeOf e ≡ withField (nodeOf b) d x))
+      → Single (λ (e : List ℕ). Memory e × (nodeOf e ≡ nodeWith (nodeOf b) (withDelivery (stateOf b) f (filled (deliveryAt (stateOf b) f) bytes))))
+  pub forget-delivery : (b : List ℕ) (f : ℕ)
+      → Single (λ (e : List ℕ). Memory e × (nodeOf e ≡ nodeWith (nodeOf b) (withDelivery (stateOf b) f noDelivery)))
+  pub put-state : (b : List ℕ) (m : ℕ) (s : MessageState)
+      → Single (λ (e : List ℕ). Memory e × (nodeOf e ≡ nodeWith (nodeOf b) (withState (stateOf b) m s)))
+  pub put-stage : (b : List ℕ) (d : ℕ) (t : Stage) → Single (λ (e : List ℕ). Memory e × (nodeOf e ≡ nodeWith (nodeOf b) (withStage (stateOf b) d t)))
   pub start : (file : List ℕ) (frames messages fields : ℕ)
       → Single (λ (e : List ℕ). Memory e × (nodeOf e ≡ startOf file frames messages fields))
   -- message
-  pub offered-message : (g : Message) (value : ℤ) → Single (λ (r : Message). r ≡ offered g value)
-  pub invalidated-message : (g : Message) → Single (λ (r : Message). r ≡ invalidated g)
-  pub with-status : (g : Message) (status : ℕ) → Single (λ (r : Message). r ≡ withStatus g status)
   pub can-hold : (g : Message) (value : ℤ) → Single (λ (r : Bool). r ≡ canHold g value)
+  pub offered-state : (g : Message) (s : MessageState) (value : ℤ) → Single (λ (r : MessageState). r ≡ offered g s value)
+  pub invalidated-state : (s : MessageState) → Single (λ (r : MessageState). r ≡ invalidated s)
+  pub with-status : (s : MessageState) (status : ℕ) → Single (λ (r : MessageState). r ≡ withStatus status s)
   pub agree-by : (g : Message) (instances : List ℤ) → Single (λ (r : Agreed). r ≡ agreedBy g instances)
-  pub agreed-message : (g : Message) (value : Agreed) → Single (λ (r : Message). r ≡ agreedOn g value)
-  pub moved-field : (change : Change) (x : Field) → Single (λ (r : Field). r ≡ staged (stageAfter change (x .stage)) x)
-  pub stage-gone : (stage : Stage) → Single (λ (r : Bool). r ≡ isGone stage)
-  pub write-field : (buffer : List ℕ) (h : Head) (g : Message) (x : Field) → Single (λ (after : List ℕ). after ≡ writes h g x buffer)
+  pub agreed-state : (g : Message) (s : MessageState) (value : Agreed) → Single (λ (r : MessageState). r ≡ agreedOn g s value)
+  pub stage-after : (change : Change) (x : Field) → Single (λ (r : Stage). r ≡ stageAfter change (x .stage))
+  pub is-gone : (x : Field) → Single (λ (r : Bool). r ≡ isGone (x .stage))
+  pub write-field : (buffer : List ℕ) (h : Frame) (g : Message) (s : MessageState) (x : FieldRecord)
+      → Single (λ (after : List ℕ). after ≡ writes h g s x buffer)
   -- node: the eight calls, and loading
   pub call : (b : List ℕ) (c : Call) → Single (λ (o : Ended). Memory (o .memory) × Does b c (o .seen) (o .memory))
   pub load : (b file : List ℕ) → Single (λ (o : Returned). Memory (o .memory) × (left (o .answer) (o .memory) ≡ loadOf (nodeOf b) file))

@@ -2,14 +2,15 @@
 -- Assumes nothing.
 use mathlib.Core.Path.{_≡_}
 use mathlib.Core.Bool.{Bool, true, false, _||_}
-use mathlib.Core.List.{List, [], _∷_}
+use mathlib.Core.List.{List, [], _∷_, map}
 use Prim.Native.Nat.{ℕ}
 use lib.Dec.{eqb}
-use Rattle.store.specs.declared.Field.{Field}
-use Rattle.store.specs.Node.{Node}
+use Rattle.record.specs.declared.Field.{Field as FieldRecord}
+use Rattle.store.specs.Node.{Layout, Node}
 use Rattle.node.specs.declared.Owner.{Owner}
 use Rattle.node.specs.Own.{fieldsOf}
-use Rattle.order.specs.Runs.{Call, send, invalidate, assemble, consumed, readFlag, deliver, close, receive, Seen, seenOf, next, Memory, Does}
+use Rattle.order.specs.Runs.{Call, send, invalidate, assemble, consumed, readFlag, deliver, close, receive}
+use Rattle.order.specs.Runs.{Seen, seenOf, next, final, Memory, Does}
 
 -- ---- dependence
 
@@ -31,26 +32,27 @@ nameOf close = all
 nameOf (receive m p) = message m
 
 -- one of the fields is of message m
-unfoldable pub someOf : ℕ → List Field → Bool
+unfoldable pub someOf : ℕ → List FieldRecord → Bool
 someOf m [] = false
 someOf m (x ∷ l) = eqb (x .message) m || someOf m l
 
 -- frame f carries message m: a field of m lies in f
-abbrev pub carries : Node → ℕ → ℕ → Bool
-carries n f m = someOf m (fieldsOf n (Owner.Frame f))
+abbrev pub carries : Layout → ℕ → ℕ → Bool
+carries l f m = someOf m (fieldsOf l (Owner.Frame f))
 
 -- the same message, the same frame, or a frame and a message that it carries; and a closing with every call
-abbrev pub linked : Node → Name → Name → Bool
-linked n (message i) (message j) = eqb i j
-linked n (message m) (frame f) = carries n f m
-linked n (frame f) (message m) = carries n f m
-linked n (frame i) (frame j) = eqb i j
-linked n all b = true
-linked n (message m) all = true
-linked n (frame f) all = true
+abbrev pub linked : Layout → Name → Name → Bool
+linked l (message i) (message j) = eqb i j
+linked l (message m) (frame f) = carries l f m
+linked l (frame f) (message m) = carries l f m
+linked l (frame i) (frame j) = eqb i j
+linked l all b = true
+linked l (message m) all = true
+linked l (frame f) all = true
 
-abbrev pub dependent : Node → Call → Call → Bool
-dependent n c d = linked n (nameOf c) (nameOf d)
+-- two calls by what they name
+abbrev pub dependent : Layout → Call → Call → Bool
+dependent l c d = linked l (nameOf c) (nameOf d)
 
 -- ---- lists of calls, and their reorderings
 
@@ -79,19 +81,18 @@ abbrev pub Distinct : List Numbered → Type 0
 Distinct l = (a b : Numbered) → Before a b l → a .number ≡ b .number → ⊥
 
 -- l₂ has the calls of l₁ in another order, in which only calls that do not depend on each other have changed places
-pub record Reordered (n : Node) (l₁ l₂ : List Numbered) : Type 0 where
+pub record Reordered (layout : Layout) (l₁ l₂ : List Numbered) : Type 0 where
   pub distinct₁ : Distinct l₁
   pub distinct₂ : Distinct l₂
   pub all₁ : (a : Numbered) → In a l₁ → In a l₂
   pub all₂ : (a : Numbered) → In a l₂ → In a l₁
-  pub swapped : (a b : Numbered) → Before a b l₁ → Before b a l₂ → dependent n (a .call) (b .call) ≡ false
+  pub swapped : (a b : Numbered) → Before a b l₁ → Before b a l₂ → dependent layout (a .call) (b .call) ≡ false
 
 -- ---- runs
 
 -- the node after the calls, and what each caller saw
 abbrev pub end : Node → List Numbered → Node
-end n [] = n
-end n (t ∷ l) = end (next n (t .call)) l
+end n l = final n (map (λ t. t .call) l)
 
 abbrev pub results : Node → List Numbered → List Result
 results n [] = []

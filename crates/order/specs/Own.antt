@@ -6,48 +6,47 @@ use mathlib.Core.Bool.{true}
 use mathlib.Core.List.{List, [], _∷_}
 use Prim.Native.Nat.{ℕ, _<_}
 use Rattle.packing.specs.Places.{Agree}
-use Rattle.store.specs.declared.Message.{Message}
-use Rattle.store.specs.declared.Field.{Field}
-use Rattle.store.specs.Node.{Frame, Node, isDelivered, dataOf, frameAt, messageAt, fieldAt}
+use Rattle.record.specs.declared.Field.{Field as FieldRecord}
+use Rattle.store.specs.declared.MessageState.{MessageState}
+use Rattle.store.specs.Node.{Node, isDelivered, laidAt, deliveryAt, stateAt, dataAt}
 use Rattle.node.specs.declared.Owner.{Owner}
-use Rattle.node.specs.Own.{own}
+use Rattle.node.specs.Own.{isIn, cellsOf}
 use Rattle.node.specs.Closing.{came}
 use Rattle.node.specs.Sound.{messagePlaces, itsStatusPlaces}
 use Rattle.order.specs.Runs.{Call, Seen, seenOf, next}
-use Rattle.order.specs.Bare.{layoutOf}
 
 -- ---- own bits alone
 
 -- the message's earlier values are the same: the one it holds, and the one last put to its filter
-pub record SameValues (g g′ : Message) : Type 0 where
-  pub held : g .held ≡ g′ .held
-  pub old : g .old ≡ g′ .old
+pub record SameValues (s s′ : MessageState) : Type 0 where
+  pub held : s .held ≡ s′ .held
+  pub old : s .old ≡ s′ .old
 
 -- field x's frame came validly in both nodes or in neither, and if it came, both have the same field bits and the same status bit there
-pub record SameInstance (n n′ : Node) (x : Field) : Type 0 where
-  pub frame : came n x ≡ came n′ x
-  pub bits : came n x ≡ true → Agree (dataOf (frameAt n (x .frame))) (dataOf (frameAt n′ (x .frame))) (messagePlaces n x)
-  pub status : came n x ≡ true → Agree (dataOf (frameAt n (x .frame))) (dataOf (frameAt n′ (x .frame))) (itsStatusPlaces n x)
+pub record SameInstance (n n′ : Node) (x : FieldRecord) : Type 0 where
+  pub frame : came (n .state) x ≡ came (n′ .state) x
+  pub bits : came (n .state) x ≡ true → Agree (dataAt n (x .frame)) (dataAt n′ (x .frame)) (messagePlaces (n .layout) x)
+  pub status : came (n .state) x ≡ true → Agree (dataAt n (x .frame)) (dataAt n′ (x .frame)) (itsStatusPlaces (n .layout) x)
 
 -- the two nodes agree on the layout, on message m's earlier values, on which of its frames came validly, and on its own field and status bits
 pub record SameOwn (n n′ : Node) (m : ℕ) : Type 0 where
-  pub layout : layoutOf n ≡ layoutOf n′
-  pub values : SameValues (messageAt n m) (messageAt n′ m)
-  pub fields : (d : ℕ) → own n (Owner.Message m) d (fieldAt n d) ≡ true → SameInstance n n′ (fieldAt n d)
+  pub layout : n .layout ≡ n′ .layout
+  pub values : SameValues (stateAt (n .state) m) (stateAt (n′ .state) m)
+  pub fields : (d : ℕ) → isIn d (cellsOf (n .layout) (Owner.Message m)) ≡ true → SameInstance n n′ (laidAt (n .layout) d)
 
 -- ---- each round by itself
 
--- the two frames differ at most in the bytes that stand there where this round delivered none
-pub record SameFrame (h h′ : Frame) : Type 0 where
-  pub head : h .head ≡ h′ .head
-  pub delivered : isDelivered (h .head) ≡ true → dataOf h ≡ dataOf h′
+-- the two deliveries of frame f differ at most in the bytes that stand there where this round delivered none
+pub record SameDelivery (n n′ : Node) (f : ℕ) : Type 0 where
+  pub delivered : deliveryAt (n .state) f .delivered ≡ deliveryAt (n′ .state) f .delivered
+  pub bytes : isDelivered (deliveryAt (n .state) f) ≡ true → dataAt n f ≡ dataAt n′ f
 
 -- the two nodes differ at most in that
 pub record SameRound (n n′ : Node) : Type 0 where
-  pub layout : layoutOf n ≡ layoutOf n′
-  pub messages : n .messages ≡ n′ .messages
-  pub fields : n .fields ≡ n′ .fields
-  pub frames : (f : ℕ) → f < n .frame-number → SameFrame (frameAt n f) (frameAt n′ f)
+  pub layout : n .layout ≡ n′ .layout
+  pub messages : n .state .messages ≡ n′ .state .messages
+  pub stages : n .state .stages ≡ n′ .state .stages
+  pub deliveries : (f : ℕ) → f < n .layout .frame-number → SameDelivery n n′ f
 
 -- what the callers see, one after the other
 abbrev pub seens : Node → List Call → List Seen

@@ -7,7 +7,7 @@ use Prim.Native.Nat.{ℕ}
 use lib.IntN.{ℤ}
 use lib.ListN.{length}
 use Rattle.whole.specs.Whole.{Bytes}
-use Rattle.store.specs.Node.{Node, nodeOf, nodeSize}
+use Rattle.store.specs.Node.{Node, nodeSize, nodeOf, nodeWith}
 use Rattle.node.specs.Calls.{left, outcome, sendOf, invalidateOf, assembleOf, assembled, consumedOf}
 use Rattle.node.specs.Calls.{flagAnswer, flagPlace, deliverOf, receiveAnswer, receivedPlace}
 use Rattle.node.specs.Closing.{closeOf}
@@ -37,12 +37,13 @@ pub record Seen : Type 0 where
   pub answer : ℕ
   pub lent : Lent
 
+-- the answer of the call on node n
 abbrev pub answerOf : Node → Call → ℕ
 answerOf n (send m v) = sendOf n m v .answer
 answerOf n (invalidate m) = invalidateOf n m .answer
 answerOf n (assemble f b) = assembleOf n f (length b) .answer
 answerOf n (consumed f) = consumedOf n f .answer
-answerOf n (readFlag m p) = flagAnswer n m
+answerOf n (readFlag m p) = flagAnswer (n .layout) m
 answerOf n (deliver f valid d) = deliverOf n f valid d .answer
 answerOf n close = 0
 answerOf n (receive m p) = receiveAnswer n m
@@ -68,6 +69,7 @@ lentAfter n (deliver f valid d) = nothing
 lentAfter n close = nothing
 lentAfter n (receive m p) = value (receivedPlace n m p)
 
+-- so what its caller sees
 abbrev pub seenOf : Node → Call → Seen
 seenOf n c = record { answer = answerOf n c; lent = lentAfter n c }
 
@@ -79,7 +81,7 @@ next n (assemble f b) = assembleOf n f (length b) .node
 next n (consumed f) = consumedOf n f .node
 next n (readFlag m p) = n
 next n (deliver f valid d) = deliverOf n f valid d .node
-next n close = closeOf n
+next n close = nodeWith n (closeOf n)
 next n (receive m p) = n
 
 -- the node after a list of calls, one after the other
@@ -100,7 +102,7 @@ Does b (send m v) s e = (left (s .answer) e ≡ sendOf (nodeOf b) m v) × (s .le
 Does b (invalidate m) s e = (left (s .answer) e ≡ invalidateOf (nodeOf b) m) × (s .lent ≡ nothing)
 Does b (assemble f d) s e = (left (s .answer) e ≡ assembleOf (nodeOf b) f (length d)) × (s .lent ≡ buffer (assembled (nodeOf b) f d))
 Does b (consumed f) s e = (left (s .answer) e ≡ consumedOf (nodeOf b) f) × (s .lent ≡ nothing)
-Does b (readFlag m p) s e = (e ≡ b) × ((s .answer ≡ flagAnswer (nodeOf b) m) × (s .lent ≡ flag (flagPlace (nodeOf b) m p)))
+Does b (readFlag m p) s e = (e ≡ b) × ((s .answer ≡ flagAnswer (nodeOf b .layout) m) × (s .lent ≡ flag (flagPlace (nodeOf b) m p)))
 Does b (deliver f valid d) s e = (left (s .answer) e ≡ deliverOf (nodeOf b) f valid d) × (s .lent ≡ nothing)
 Does b close s e = (left (s .answer) e ≡ outcome 0 (closeOf (nodeOf b)) (nodeOf b)) × (s .lent ≡ nothing)
 Does b (receive m p) s e = (e ≡ b) × ((s .answer ≡ receiveAnswer (nodeOf b) m) × (s .lent ≡ value (receivedPlace (nodeOf b) m p)))

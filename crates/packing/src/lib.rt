@@ -4,6 +4,7 @@ ghost use mathlib.Core.Bool.{false};
 ghost use Prim.Native.Nat.{_+_, _-_, _*_, _/_, _%_, _<_, _≤_, _^_};
 ghost use lib.ListN.{length, take};
 ghost use lib.Signed.{mag};
+ghost use Rattle.whole.specs.Whole.{word};
 ghost use Rattle.packing.specs.Places.{places, inFrame, placesIn, packed, unpacked};
 ghost use Rattle.packing.specs.Values.{inRange, valueOf, patternOf, extended};
 ghost use Rattle.packing.specs.Window.{Window, Around, byteOf, windowOf, withWindow, lowBit, swapped, inOrder, withBits};
@@ -239,6 +240,13 @@ pub fn pattern_of(value: i64) -> u32
 {
     let m = (magnitude(value) % 4294967296) as u32;
     if value < 0 { 4294967295 - m } else { m }
+}
+
+// The 32-bit pattern of four bytes, the lowest first.
+pub fn word_of(a: u8, b: u8, c: u8, d: u8) -> u32
+    ensures { λ r. ⌜ r ≡ word a b c d ⌝ }
+{
+    a as u32 + 256 * (b as u32 + 256 * (c as u32 + 256 * d as u32))
 }
 
 // Whether a 32-bit pattern is extended from the width: exactly if its value is one of the width's.

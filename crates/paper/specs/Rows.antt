@@ -12,7 +12,9 @@ use Rattle.packing.specs.Values.{patternOf}
 use Rattle.agreement.specs.Agreement.{agreed, statusOf}
 use Rattle.agreement.specs.declared.Agreed.the-variants.{Value}
 use Rattle.store.specs.declared.Message.{Message}
+use Rattle.store.specs.declared.MessageState.{MessageState}
 use Rattle.store.specs.Node.{isValid}
+use Rattle.store.specs.Start.{atFirst}
 use Rattle.message.specs.Messages.{offered}
 
 -- ---- the rows' words
@@ -39,30 +41,19 @@ average = 1
 abbrev pub vote : ℕ
 vote = 2
 
--- a sent message of 10 bits, signed, with that filter and initial value
-abbrev pub message : ℕ → ℤ → Message
-message filter initial =
-    record {
-      width = 10;
-      sign = 1;
-      direction = 1;
-      agreement = 0;
-      filter = filter;
-      statusbit = 1;
-      valid = 0;
-      status = 21;
-      first = 0;
-      fields = 1;
-      x1 = 0;
-      x2 = 0;
-      held = initial;
-      old = initial;
-    }
+-- a sent message of 10 bits, signed, with that filter
+abbrev pub message : ℕ → Message
+message filter =
+    record { width = 10; sign = 1; direction = 1; agreement = 0; filter = filter; statusbit = 1; first = 0; fields = 1; x1 = 0; x2 = 0 }
+
+-- its state at start, with that initial value
+abbrev pub initially : ℤ → MessageState
+initially v = atFirst 0 (patternOf 32 v)
 
 -- whether it is valid after each of some values is sent, one after the other
-unfoldable pub sent : Message → List ℤ → List Bool
-sent g [] = []
-sent g (v ∷ l) = isValid (offered g v) ∷ sent (offered g v) l
+unfoldable pub sent : Message → MessageState → List ℤ → List Bool
+sent g s [] = []
+sent g s (v ∷ l) = isValid (offered g s v) ∷ sent g (offered g s v) l
 
 -- ---- the table
 
@@ -97,4 +88,4 @@ pub record Rows : Type 0 where
   -- vote 5 alone: 5
   pub P9 : agreed vote (pos 5 ∷ []) ≡ Value (pos 5)
   -- filter 10, initial 0, then 10, 4, 7: passes, not, passes
-  pub P10 : sent (message 10 (pos 0)) (pos 10 ∷ pos 4 ∷ pos 7 ∷ []) ≡ true ∷ false ∷ true ∷ []
+  pub P10 : sent (message 10) (initially (pos 0)) (pos 10 ∷ pos 4 ∷ pos 7 ∷ []) ≡ true ∷ false ∷ true ∷ []

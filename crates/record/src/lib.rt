@@ -88,21 +88,16 @@ pub fn byte(file: &[u8], i: usize, k: usize) -> u8
     0
 }
 
-fn wide(x: u8) -> u32
-    ensures { λ r. ⌜ (r ≡ x) × (r ≤ 255) ⌝ }
-{
-    x as u32
-}
-
 fn word(file: &[u8], i: usize, k: usize) -> u32
     requires { ⌜ (i ≤ 1000) × (k ≤ 900) ⌝ }
     ensures { λ r. ⌜ r ≡ wordAt (now (file .entry)) i k ⌝ }
 {
-    let a = wide(byte(file, i, k));
-    let b = wide(byte(file, i, k + 1));
-    let c = wide(byte(file, i, k + 2));
-    let d = wide(byte(file, i, k + 3));
-    a + 256 * (b + 256 * (c + 256 * d))
+    packing::word_of(
+        byte(file, i, k),
+        byte(file, i, k + 1),
+        byte(file, i, k + 2),
+        byte(file, i, k + 3),
+    )
 }
 
 pub fn frame_at(file: &[u8], i: usize) -> Frame

@@ -6,3 +6,5 @@ pub mod Places
 pub mod Laws
 pub mod RoundTrip
 pub mod Tables
+pub mod Selected
+pub mod Index

@@ -4,7 +4,7 @@ use mathlib.Core.Path.{_≡_, refl, ap, sym, _∙_}
 use mathlib.Core.List.{List, [], _∷_, _++_, append-assoc}
 use mathlib.Core.Logic.{_⊎_, inl, inr}
 use Prim.Native.Nat.{ℕ, zero, suc, _+_, _-_, _≤_, _<_}
-use native.Mathlib.Nat.{add-assoc}
+use native.Mathlib.Nat.{add-assoc, add-zero}
 use native.Mathlib.Omega.{arith}
 use lib.ListN.{length, getD, set, take, drop, length-append, length-drop, take-append-drop}
 use lib.Seq.{
@@ -46,8 +46,11 @@ pub bytes-part : (b : List ℕ) (at s : ℕ) → Bytes b → Bytes (part b at s)
 bytes-part b at s y = bytes-take (drop at b) s (bytes-drop b at y)
 
 -- a byte of a part, and a part of a part
-pub part-byte : (b : List ℕ) (at s i : ℕ) → i < s → getD (part b at s) i 0 ≡ getD b (at + i) 0
+part-byte : (b : List ℕ) (at s i : ℕ) → i < s → getD (part b at s) i 0 ≡ getD b (at + i) 0
 part-byte b at s i h = getD-take s (drop at b) i 0 h ∙ getD-drop at b i 0
+
+pub part-first : (b : List ℕ) (at s : ℕ) → 0 < s → getD (part b at s) 0 0 ≡ getD b at 0
+part-first b at s h = part-byte b at s 0 h ∙ ap (λ (i : ℕ). getD b i 0) (add-zero at)
 
 part-front : (x y : List ℕ) (p s : ℕ) → p + s ≤ length x → part (x ++ y) p s ≡ part x p s
 part-front x y p s h = ap (take s) (drop-append-le p x y (omega arith)) ∙ take-append-le s (drop p x) y (rw length-drop (omega arith))
@@ -122,7 +125,9 @@ put-over b at s c = rw drop-drop refl
 pub part-back : (b : List ℕ) (at s : ℕ) {c d : List ℕ} → c ≡ d → putMid at (at + s - at) b c ≡ over b at s d
 part-back b at s {c} {d} same = let e : at + s - at ≡ s = omega arith in rw (same, e) (put-over b at s d)
 
--- one byte of a part is written
-pub byte-within : (b : List ℕ) (at s i v : ℕ) → at + s ≤ length b → i < s → set b (at + i) v ≡ over b at s (set (part b at s) i v)
-byte-within b at s i v fits inside =
-    sym (set-mid-at at s i b v (rw (length-part b at s fits) inside)) ∙ put-over b at s (set (part b at s) i v)
+-- the first byte of a part is written
+pub first-within : (b : List ℕ) (at s v : ℕ) → at + s ≤ length b → 0 < s → set b at v ≡ over b at s (set (part b at s) 0 v)
+first-within b at s v fits inside =
+    ap (λ (i : ℕ). set b i v) (sym (add-zero at))
+    ∙ sym (set-mid-at at s 0 b v (rw (length-part b at s fits) inside))
+    ∙ put-over b at s (set (part b at s) 0 v)

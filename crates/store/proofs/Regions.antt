@@ -113,13 +113,13 @@ module _ {A : Type 0} (encode : A → List ℕ) (decode : List ℕ → A) (s : �
       ∙ take-append-drop (n * s) (drop base b)
 
 module _ {A : Type 0} (encode : A → List ℕ) (s : ℕ) (sized : (x : A) → length (encode x) ≡ s) where
-  pub length-cells : (l : List A) → length (cells encode l) ≡ length l * s
+  length-cells : (l : List A) → length (cells encode l) ≡ length l * s
   unfolding cells
   length-cells [] = sym (zero-mul s)
   length-cells (x ∷ l) = rw (length-append, sized, length-cells l, suc-mul) (add-comm s (length l * s))
 
   -- cells, encoded and decoded again, before other bytes
-  pub uncells-cells : (decode : List ℕ → A) (l : List A) (q : List ℕ) (d : A)
+  uncells-cells : (decode : List ℕ → A) (l : List A) (q : List ℕ) (d : A)
       → ((k : ℕ) → k < length l → decode (encode (getD l k d)) ≡ getD l k d) → uncells decode s (length l) (cells encode l ++ q) ≡ l
   unfolding cells uncells
   uncells-cells decode [] q d back = refl
@@ -129,3 +129,12 @@ module _ {A : Type 0} (encode : A → List ℕ) (s : ℕ) (sized : (x : A) → l
       (ap decode (take-at (encode x) (cells encode l ++ q) s (sized x)) ∙ back zero (omega arith))
       (ap (uncells decode s (length l)) (drop-at (encode x) (cells encode l ++ q) s (sized x))
       ∙ uncells-cells decode l q d (λ k i. back (suc k) (suc-le-suc i))))
+
+  -- cells that lie in a memory at base, before q, are its region there, and q lies behind the region
+  pub region-cells : (decode : List ℕ → A) (n base : ℕ) (b : List ℕ) (l : List A) (q : List ℕ) (d : A) → drop base b ≡ cells encode l ++ q
+      → length l ≡ n → ((k : ℕ) → k < n → decode (encode (getD l k d)) ≡ getD l k d) → (region decode s n base b ≡ l) × (drop (base + n * s) b ≡ q)
+  region-cells decode n base b l q d there size back =
+      let end : length (cells encode l) ≡ n * s = rw (length-cells, size) refl in (
+        rw (there, ← size) (uncells-cells decode l q d (λ k h. back k (rw size at h))),
+        sym (drop-drop (n * s) base b) ∙ ap (drop (n * s)) there ∙ drop-at (cells encode l) q (n * s) end,
+      )

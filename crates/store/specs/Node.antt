@@ -1,52 +1,68 @@
--- The node, and how it lies in the memory that the caller lends: three counts, then 32 frames, 32 messages and 128 fields in cells of fixed size.
+-- The node, in two parts: what the layout says, which a load alone writes, and the state, which the calls change. Each part lies in the memory that
+-- the caller lends in cells of fixed size, first the layout and then the state.
 -- Every content of the memory is a node, so that a call has an outcome whatever it finds there.
 -- Assumes nothing.
 use mathlib.Core.Path.{_≡_}
-use mathlib.Core.Bool.{Bool, true, not}
+use mathlib.Core.Bool.{Bool, not}
 use mathlib.Core.List.{List, [], _∷_, _++_}
 use Prim.Native.Nat.{ℕ, zero, suc, _+_, _*_, _/_, _%_, _^_, _<_, min}
 use lib.Dec.{eqb}
-use lib.IntN.{pos}
+use lib.IntN.{ℤ}
 use lib.ListN.{length, getD, set, take, drop, replicate}
 use lib.Seq.{paste}
 use Rattle.whole.specs.Whole.{word}
-use Rattle.packing.specs.Values.{inRange, valueOf, patternOf}
+use Rattle.packing.specs.Values.{valueOf}
+use Rattle.record.specs.declared.Field.{Field as FieldRecord}
 use Rattle.layout.specs.declared.Counts.{Counts}
 use Rattle.store.specs.Memory.{part, cells, uncells}
 use Rattle.store.specs.declared.Stage.{Stage}
 use Rattle.store.specs.declared.Stage.the-variants.{Waiting, Loaded, Gone}
-use Rattle.store.specs.declared.Head.{Head}
+use Rattle.store.specs.declared.Frame.{Frame}
 use Rattle.store.specs.declared.Message.{Message}
+use Rattle.store.specs.declared.MessageState.{MessageState}
 use Rattle.store.specs.declared.Field.{Field}
 
 -- ---- the node
 
--- a frame: what the layout says of it, whether it was delivered this round, and the 32 bytes that hold the delivery
-pub record Frame : Type 0 where
-  pub head : Head
-  pub bytes : List ℕ
-
--- the counts are those of the layout; cells past a count are no frames, messages or fields
-pub record Node : Type 0 where
+-- what the layout says; cells past a count are no frames, messages or fields. A field is as its record says, and the index has the fields' numbers
+-- frame by frame, so that a frame's fields are a run of the index as a message's are a run of the fields
+pub record Layout : Type 0 where
   pub frame-number : ℕ
   pub message-number : ℕ
   pub field-number : ℕ
   pub frames : List Frame
   pub messages : List Message
-  pub fields : List Field
+  pub fields : List FieldRecord
+  pub index : List ℕ
+
+-- whether a frame was delivered this round, and the 32 bytes that hold the delivery
+pub record Delivery : Type 0 where
+  pub delivered : ℕ
+  pub bytes : List ℕ
+
+-- what calls change: the deliveries of the frames, the states of the messages and the stages of the fields
+pub record State : Type 0 where
+  pub deliveries : List Delivery
+  pub messages : List MessageState
+  pub stages : List Stage
+
+-- a node is both
+pub record Node : Type 0 where
+  pub layout : Layout
+  pub state : State
 
 -- how many there are, and never more than there are cells
-abbrev pub countsOf : Node → Counts
-countsOf n = record { frames = min (n .frame-number) 32; messages = min (n .message-number) 32; fields = min (n .field-number) 128 }
+abbrev pub countsOf : Layout → Counts
+countsOf l = record { frames = min (l .frame-number) 32; messages = min (l .message-number) 32; fields = min (l .field-number) 128 }
 
-abbrev pub frameCount : Node → ℕ
-frameCount n = countsOf n .frames
+abbrev pub frameCount : Layout → ℕ
+frameCount l = countsOf l .frames
 
-abbrev pub messageCount : Node → ℕ
-messageCount n = countsOf n .messages
+abbrev pub messageCount : Layout → ℕ
+messageCount l = countsOf l .messages
 
-abbrev pub fieldCount : Node → ℕ
-fieldCount n = countsOf n .fields
+abbrev pub fieldCount : Layout → ℕ
+fieldCount l = countsOf l .fields
 
 -- ---- what the bytes of a cell say, in the paper's words
 
@@ -59,23 +75,30 @@ isFloat g = eqb (g .sign) 2
 abbrev pub isSent : Message → Bool
 isSent g = eqb (g .direction) 1
 
-abbrev pub isValid : Message → Bool
-isValid g = not (eqb (g .valid) 0)
-
 abbrev pub hasStatusBit : Message → Bool
 hasStatusBit g = not (eqb (g .statusbit) 0)
 
-abbrev pub isBig : Head → Bool
+abbrev pub isBig : Frame → Bool
 isBig h = eqb (h .order) 1
 
-abbrev pub isSentFrame : Head → Bool
+abbrev pub isSentFrame : Frame → Bool
 isSentFrame h = eqb (h .direction) 1
 
-abbrev pub isEvent : Head → Bool
+abbrev pub isEvent : Frame → Bool
 isEvent h = eqb (h .trigger) 1
 
-abbrev pub isDelivered : Head → Bool
-isDelivered h = not (eqb (h .delivered) 0)
+abbrev pub isDelivered : Delivery → Bool
+isDelivered y = not (eqb (y .delivered) 0)
+
+abbrev pub isValid : MessageState → Bool
+isValid s = not (eqb (s .valid) 0)
+
+-- a state has values as their 32-bit patterns: the one that message g holds, and the one last put to its filter
+abbrev pub heldValue : Message → MessageState → ℤ
+heldValue g s = valueOf (isSigned g) 32 (s .held)
+
+abbrev pub oldValue : Message → MessageState → ℤ
+oldValue g s = valueOf (isSigned g) 32 (s .old)
 
 -- a byte other than 0 and 1 is a stage too, gone, so that every byte is one
 abbrev pub stageOf : ℕ → Stage
@@ -88,7 +111,7 @@ codeOf Waiting = 0
 codeOf Loaded = 1
 codeOf (Gone k) = k
 
--- ---- cells
+-- ---- cells of the layout
 
 -- the word at byte k of a cell, little-endian, and a word's four bytes before others
 abbrev pub wordIn : List ℕ → ℕ → ℕ
@@ -97,18 +120,15 @@ wordIn c k = word (getD c k 0) (getD c (k + 1) 0) (getD c (k + 2) 0) (getD c (k 
 abbrev pub wordThen : ℕ → List ℕ → List ℕ
 wordThen x l = x % 256 ∷ x / 256 % 256 ∷ x / 256 / 256 % 256 ∷ x / 256 / 256 / 256 % 256 ∷ l
 
--- a frame's cell: 5 bytes of head and 32 of data
-unfoldable pub headOf : List ℕ → Head
-headOf c = record { length = getD c 0 0; order = getD c 1 0; direction = getD c 2 0; trigger = getD c 3 0; delivered = getD c 4 0 }
-
+-- a frame's cell: 6 bytes
 unfoldable pub frameOf : List ℕ → Frame
-frameOf c = record { head = headOf c; bytes = drop 5 c }
+frameOf c =
+    record { length = getD c 0 0; order = getD c 1 0; direction = getD c 2 0; trigger = getD c 3 0; first = getD c 4 0; fields = getD c 5 0 }
 
 unfoldable pub frameBytes : Frame → List ℕ
-frameBytes h =
-    h .head .length ∷ h .head .order ∷ h .head .direction ∷ h .head .trigger ∷ h .head .delivered ∷ take 32 (h .bytes ++ replicate 32 0)
+frameBytes h = h .length ∷ h .order ∷ h .direction ∷ h .trigger ∷ h .first ∷ h .fields ∷ []
 
--- a message's cell: 10 bytes and 4 words; a value lies there as its 32-bit pattern
+-- a message's cell: 8 bytes and 2 words
 unfoldable pub messageOf : List ℕ → Message
 messageOf c =
     record {
@@ -118,209 +138,249 @@ messageOf c =
       agreement = getD c 3 0;
       filter = getD c 4 0;
       statusbit = getD c 5 0;
-      valid = getD c 6 0;
-      status = getD c 7 0;
-      first = getD c 8 0;
-      fields = getD c 9 0;
-      x1 = wordIn c 10;
-      x2 = wordIn c 14;
-      held = valueOf (eqb (getD c 1 0) 1) 32 (wordIn c 18);
-      old = valueOf (eqb (getD c 1 0) 1) 32 (wordIn c 22);
+      first = getD c 6 0;
+      fields = getD c 7 0;
+      x1 = wordIn c 8;
+      x2 = wordIn c 12;
     }
 
 unfoldable pub messageBytes : Message → List ℕ
 messageBytes g =
-    g .width ∷ g .sign ∷ g .direction ∷ g .agreement ∷ g .filter ∷ g .statusbit ∷ g .valid ∷ g .status ∷ g .first ∷ g .fields
-    ∷ wordThen (g .x1) (wordThen (g .x2) (wordThen (patternOf 32 (g .held)) (wordThen (patternOf 32 (g .old)) [])))
+    g .width ∷ g .sign ∷ g .direction ∷ g .agreement ∷ g .filter ∷ g .statusbit ∷ g .first ∷ g .fields
+    ∷ wordThen (g .x1) (wordThen (g .x2) [])
 
--- a field's cell: 6 bytes
-unfoldable pub fieldOf : List ℕ → Field
-fieldOf c =
-    record {
-      message = getD c 0 0;
-      frame = getD c 1 0;
-      start = getD c 2 0;
-      status = getD c 3 0;
-      place = getD c 4 0;
-      stage = stageOf (getD c 5 0);
-    }
+-- a field's cell: the 5 bytes of its record
+unfoldable pub laidOf : List ℕ → FieldRecord
+laidOf c = record { message = getD c 0 0; frame = getD c 1 0; start = getD c 2 0; status = getD c 3 0; place = getD c 4 0 }
 
-unfoldable pub fieldBytes : Field → List ℕ
-fieldBytes x = x .message ∷ x .frame ∷ x .start ∷ x .status ∷ x .place ∷ codeOf (x .stage) ∷ []
+unfoldable pub laidBytes : FieldRecord → List ℕ
+laidBytes x = x .message ∷ x .frame ∷ x .start ∷ x .status ∷ x .place ∷ []
 
--- the data of a frame: as many of its bytes as it is long
-abbrev pub dataOf : Frame → List ℕ
-dataOf h = take (h .head .length) (h .bytes)
+-- a cell of the index: 1 byte
+unfoldable pub listedOf : List ℕ → ℕ
+listedOf c = getD c 0 0
 
--- ---- the memory: 3 + 32 * 37 + 32 * 26 + 128 * 6 bytes
+unfoldable pub listedBytes : ℕ → List ℕ
+listedBytes d = d ∷ []
 
-abbrev pub nodeSize : ℕ
-nodeSize = 2787
+-- ---- cells of the state
+
+-- a delivery's cell: 1 byte and 32 of data
+unfoldable pub deliveryOf : List ℕ → Delivery
+deliveryOf c = record { delivered = getD c 0 0; bytes = drop 1 c }
+
+unfoldable pub deliveryBytes : Delivery → List ℕ
+deliveryBytes y = y .delivered ∷ take 32 (y .bytes ++ replicate 32 0)
+
+-- a message's state: 2 bytes and 2 words
+unfoldable pub messageStateOf : List ℕ → MessageState
+messageStateOf c = record { valid = getD c 0 0; status = getD c 1 0; held = wordIn c 2; old = wordIn c 6 }
+
+unfoldable pub messageStateBytes : MessageState → List ℕ
+messageStateBytes s = s .valid ∷ s .status ∷ wordThen (s .held) (wordThen (s .old) [])
+
+-- a field's stage: 1 byte
+unfoldable pub stageIn : List ℕ → Stage
+stageIn c = stageOf (getD c 0 0)
+
+unfoldable pub stageBytes : Stage → List ℕ
+stageBytes t = codeOf t ∷ []
+
+-- ---- the memory: 3 + 32 * 6 + 32 * 16 + 128 * 5 + 128 bytes of layout, then 32 * 33 + 32 * 10 + 128 of state
 
 abbrev pub framesAt : ℕ
 framesAt = 3
 
 abbrev pub messagesAt : ℕ
-messagesAt = 1187
+messagesAt = 195
 
 abbrev pub fieldsAt : ℕ
-fieldsAt = 2019
+fieldsAt = 707
 
-unfoldable pub nodeOf : List ℕ → Node
-nodeOf b =
+abbrev pub indexAt : ℕ
+indexAt = 1347
+
+abbrev pub layoutSize : ℕ
+layoutSize = 1475
+
+abbrev pub deliveriesAt : ℕ
+deliveriesAt = 1475
+
+abbrev pub statesAt : ℕ
+statesAt = 2531
+
+abbrev pub stateSize : ℕ
+stateSize = 10
+
+abbrev pub stagesAt : ℕ
+stagesAt = statesAt + 32 * stateSize
+
+abbrev pub nodeSize : ℕ
+nodeSize = stagesAt + 128
+
+-- what the memory says: the layout, the state, and the node
+unfoldable pub layoutOf : List ℕ → Layout
+layoutOf b =
     record {
       frame-number = getD b 0 0;
       message-number = getD b 1 0;
       field-number = getD b 2 0;
-      frames = uncells frameOf 37 32 (drop framesAt b);
-      messages = uncells messageOf 26 32 (drop messagesAt b);
-      fields = uncells fieldOf 6 128 (drop fieldsAt b);
+      frames = uncells frameOf 6 32 (drop framesAt b);
+      messages = uncells messageOf 16 32 (drop messagesAt b);
+      fields = uncells laidOf 5 128 (drop fieldsAt b);
+      index = uncells listedOf 1 128 (drop indexAt b);
     }
 
-unfoldable pub bytesOf : Node → List ℕ
-bytesOf n =
-    n .frame-number ∷ n .message-number ∷ n .field-number
-    ∷ cells frameBytes (n .frames) ++ (cells messageBytes (n .messages) ++ cells fieldBytes (n .fields))
+unfoldable pub stateOf : List ℕ → State
+stateOf b =
+    record {
+      deliveries = uncells deliveryOf 33 32 (drop deliveriesAt b);
+      messages = uncells messageStateOf stateSize 32 (drop statesAt b);
+      stages = uncells stageIn 1 128 (drop stagesAt b);
+    }
+
+abbrev pub nodeOf : List ℕ → Node
+nodeOf b = record { layout = layoutOf b; state = stateOf b }
+
+-- and the bytes of each
+unfoldable pub layoutBytes : Layout → List ℕ
+layoutBytes l =
+    l .frame-number ∷ l .message-number ∷ l .field-number
+    ∷ cells frameBytes (l .frames) ++ (cells messageBytes (l .messages) ++ (cells laidBytes (l .fields) ++ cells listedBytes (l .index)))
+
+unfoldable pub stateBytes : State → List ℕ
+stateBytes s = cells deliveryBytes (s .deliveries) ++ (cells messageStateBytes (s .messages) ++ cells stageBytes (s .stages))
+
+abbrev pub bytesOf : Node → List ℕ
+bytesOf n = layoutBytes (n .layout) ++ stateBytes (n .state)
 
 -- the 32 bytes of memory in which the data of frame f lie, and the eight behind them, which are not the frame's
 unfoldable pub roomOf : List ℕ → ℕ → List ℕ
-roomOf b f = part b (framesAt + f * 37 + 5) 40
+roomOf b f = part b (deliveriesAt + f * 33 + 1) 40
 
 -- ---- a cell by its number
 
 -- what stands past the last cell of a region
-abbrev pub noHead : Head
-noHead = record { length = 0; order = 0; direction = 0; trigger = 0; delivered = 0 }
-
 abbrev pub noFrame : Frame
-noFrame = record { head = noHead; bytes = replicate 32 0 }
+noFrame = record { length = 0; order = 0; direction = 0; trigger = 0; first = 0; fields = 0 }
 
 abbrev pub noMessage : Message
 noMessage =
-    record {
-      width = 0;
-      sign = 0;
-      direction = 0;
-      agreement = 0;
-      filter = 0;
-      statusbit = 0;
-      valid = 0;
-      status = 0;
-      first = 0;
-      fields = 0;
-      x1 = 0;
-      x2 = 0;
-      held = pos 0;
-      old = pos 0;
-    }
+    record { width = 0; sign = 0; direction = 0; agreement = 0; filter = 0; statusbit = 0; first = 0; fields = 0; x1 = 0; x2 = 0 }
 
-abbrev pub noField : Field
-noField = record { message = 0; frame = 0; start = 0; status = 0; place = 0; stage = Gone 2 }
+abbrev pub notLaid : FieldRecord
+notLaid = record { message = 0; frame = 0; start = 0; status = 0; place = 0 }
 
-abbrev pub frameAt : Node → ℕ → Frame
-frameAt n f = getD (n .frames) f noFrame
+abbrev pub noDelivery : Delivery
+noDelivery = record { delivered = 0; bytes = replicate 32 0 }
 
-abbrev pub messageAt : Node → ℕ → Message
-messageAt n m = getD (n .messages) m noMessage
+abbrev pub noState : MessageState
+noState = record { valid = 0; status = 0; held = 0; old = 0 }
 
+abbrev pub noStage : Stage
+noStage = Gone 2
+
+-- frame f, message m, field d as its record says
+abbrev pub frameAt : Layout → ℕ → Frame
+frameAt l f = getD (l .frames) f noFrame
+
+abbrev pub messageAt : Layout → ℕ → Message
+messageAt l m = getD (l .messages) m noMessage
+
+abbrev pub laidAt : Layout → ℕ → FieldRecord
+laidAt l d = getD (l .fields) d notLaid
+
+-- the number of the field at place i of the index
+abbrev pub listedAt : Layout → ℕ → ℕ
+listedAt l i = getD (l .index) i 0
+
+-- the delivery of frame f, the state of message m, the stage of field d
+abbrev pub deliveryAt : State → ℕ → Delivery
+deliveryAt s f = getD (s .deliveries) f noDelivery
+
+abbrev pub stateAt : State → ℕ → MessageState
+stateAt s m = getD (s .messages) m noState
+
+abbrev pub stageAt : State → ℕ → Stage
+stageAt s d = getD (s .stages) d noStage
+
+-- a field is what its record says, and its stage
 abbrev pub fieldAt : Node → ℕ → Field
-fieldAt n d = getD (n .fields) d noField
-
--- a frame with k for whether it was delivered this round; with other data over its own; with zeros for its data
-abbrev pub marked : ℕ → Frame → Frame
-marked k h =
+fieldAt n d =
     record {
-      head =
-          record {
-            length = h .head .length;
-            order = h .head .order;
-            direction = h .head .direction;
-            trigger = h .head .trigger;
-            delivered = k;
-          };
-      bytes = h .bytes;
+      message = laidAt (n .layout) d .message;
+      frame = laidAt (n .layout) d .frame;
+      start = laidAt (n .layout) d .start;
+      status = laidAt (n .layout) d .status;
+      place = laidAt (n .layout) d .place;
+      stage = stageAt (n .state) d;
     }
 
-abbrev pub filled : Frame → List ℕ → Frame
-filled h d = record { head = h .head; bytes = paste (h .bytes) 0 d (length d) }
+-- the data of frame f: as many of the delivery's bytes as the frame is long
+abbrev pub dataAt : Node → ℕ → List ℕ
+dataAt n f = take (frameAt (n .layout) f .length) (deliveryAt (n .state) f .bytes)
 
-abbrev pub emptied : Head → Frame
-emptied h = record { head = h; bytes = replicate 32 0 }
+-- ---- changes
 
--- a frame whose delivery is forgotten: not delivered, and nothing of the data left
-abbrev pub undelivered : Frame → Frame
-undelivered h = emptied (marked 0 h .head)
+-- a message's state with another validity, status, held and old value
+abbrev pub withValid : ℕ → MessageState → MessageState
+withValid k s = record { valid = k; status = s .status; held = s .held; old = s .old }
 
--- the node with other counts, with other lists, and with one cell replaced
-abbrev pub withNumbers : Node → ℕ → ℕ → ℕ → Node
-withNumbers n frames messages fields =
-    record {
-      frame-number = frames;
-      message-number = messages;
-      field-number = fields;
-      frames = n .frames;
-      messages = n .messages;
-      fields = n .fields;
-    }
+abbrev pub withStatus : ℕ → MessageState → MessageState
+withStatus k s = record { valid = s .valid; status = k; held = s .held; old = s .old }
 
-abbrev pub withFrames : Node → List Frame → Node
-withFrames n l =
-    record {
-      frame-number = n .frame-number;
-      message-number = n .message-number;
-      field-number = n .field-number;
-      frames = l;
-      messages = n .messages;
-      fields = n .fields;
-    }
+abbrev pub withHeld : ℕ → MessageState → MessageState
+withHeld x s = record { valid = s .valid; status = s .status; held = x; old = s .old }
 
-abbrev pub withMessages : Node → List Message → Node
-withMessages n l =
-    record {
-      frame-number = n .frame-number;
-      message-number = n .message-number;
-      field-number = n .field-number;
-      frames = n .frames;
-      messages = l;
-      fields = n .fields;
-    }
+abbrev pub withOld : ℕ → MessageState → MessageState
+withOld x s = record { valid = s .valid; status = s .status; held = s .held; old = x }
 
-abbrev pub withFields : Node → List Field → Node
-withFields n l =
-    record {
-      frame-number = n .frame-number;
-      message-number = n .message-number;
-      field-number = n .field-number;
-      frames = n .frames;
-      messages = n .messages;
-      fields = l;
-    }
+-- a delivery with k for whether it came this round, and one with other data over its own
+abbrev pub marked : ℕ → Delivery → Delivery
+marked k y = record { delivered = k; bytes = y .bytes }
 
-abbrev pub withFrame : Node → ℕ → Frame → Node
-withFrame n f h = withFrames n (set (n .frames) f h)
+abbrev pub filled : Delivery → List ℕ → Delivery
+filled y d = record { delivered = y .delivered; bytes = paste (y .bytes) 0 d (length d) }
 
-abbrev pub withMessage : Node → ℕ → Message → Node
-withMessage n m g = withMessages n (set (n .messages) m g)
+-- the state with other lists, and with one cell replaced
+abbrev pub withDeliveries : State → List Delivery → State
+withDeliveries s l = record { deliveries = l; messages = s .messages; stages = s .stages }
 
-abbrev pub withField : Node → ℕ → Field → Node
-withField n d x = withFields n (set (n .fields) d x)
+abbrev pub withStates : State → List MessageState → State
+withStates s l = record { deliveries = s .deliveries; messages = l; stages = s .stages }
+
+abbrev pub withStages : State → List Stage → State
+withStages s l = record { deliveries = s .deliveries; messages = s .messages; stages = l }
+
+abbrev pub withDelivery : State → ℕ → Delivery → State
+withDelivery s f y = withDeliveries s (set (s .deliveries) f y)
+
+abbrev pub withState : State → ℕ → MessageState → State
+withState s m t = withStates s (set (s .messages) m t)
+
+abbrev pub withStage : State → ℕ → Stage → State
+withStage s d t = withStages s (set (s .stages) d t)
+
+-- the node with another state: the layout is the same
+abbrev pub nodeWith : Node → State → Node
+nodeWith n s = record { layout = n .layout; state = s }
 
 -- ---- what the memory can hold
 
--- a message whose values are 32-bit ones, and a stage whose byte says that stage: they are read back as they were written
-pub record Stored (g : Message) : Type 0 where
-  pub held : inRange (isSigned g) 32 (g .held) ≡ true
-  pub old : inRange (isSigned g) 32 (g .old) ≡ true
-
+-- a stage whose byte says that stage: it is read back as it was written
 abbrev pub StoredStage : Stage → Type 0
-StoredStage s = stageOf (codeOf s) ≡ s
+StoredStage t = stageOf (codeOf t) ≡ t
 
 -- a node with a cell for each place, each of which is read back as it was written
 pub record Shaped (n : Node) : Type 0 where
-  pub frames : length (n .frames) ≡ 32
-  pub messages : length (n .messages) ≡ 32
-  pub fields : length (n .fields) ≡ 128
-  pub bytes : (f : ℕ) → f < 32 → length (frameAt n f .bytes) ≡ 32
-  pub words : (m : ℕ) → m < 32 → (messageAt n m .x1 < 2 ^ 32) × (messageAt n m .x2 < 2 ^ 32)
-  pub values : (m : ℕ) → m < 32 → Stored (messageAt n m)
-  pub stages : (d : ℕ) → d < 128 → StoredStage (fieldAt n d .stage)
+  pub frames : length (n .layout .frames) ≡ 32
+  pub messages : length (n .layout .messages) ≡ 32
+  pub fields : length (n .layout .fields) ≡ 128
+  pub index : length (n .layout .index) ≡ 128
+  pub words : (m : ℕ) → m < 32 → (messageAt (n .layout) m .x1 < 2 ^ 32) × (messageAt (n .layout) m .x2 < 2 ^ 32)
+  pub deliveries : length (n .state .deliveries) ≡ 32
+  pub bytes : (f : ℕ) → f < 32 → length (deliveryAt (n .state) f .bytes) ≡ 32
+  pub states : length (n .state .messages) ≡ 32
+  pub values : (m : ℕ) → m < 32 → (stateAt (n .state) m .held < 2 ^ 32) × (stateAt (n .state) m .old < 2 ^ 32)
+  pub stages : length (n .state .stages) ≡ 128
+  pub codes : (d : ℕ) → d < 128 → StoredStage (stageAt (n .state) d)

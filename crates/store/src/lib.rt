@@ -1,56 +1,115 @@
-// One node in memory that the caller lends: cells are read into structs and written back from them, and nothing else touches the bytes.
+// One node in memory that the caller lends: cells are read into structs, and what changes is written back; nothing else touches the bytes.
 ghost use mathlib.Core.Path.{_≡_};
 ghost use mathlib.Core.List.{[]};
 ghost use Prim.Native.Nat.{_+_, _<_, _≤_, min};
-ghost use lib.ListN.{length};
+ghost use lib.ListN.{length, replicate};
 ghost use lib.Seq.{paste};
 ghost use Rattle.record.specs.Numbers.{tally};
 ghost use Rattle.store.specs.Node.{
   wordIn,
   wordThen,
-  headOf,
+  frameOf,
   frameBytes,
   messageOf,
   messageBytes,
+  laidOf,
+  laidBytes,
+  messageStateOf,
+  messageStateBytes,
   stageOf,
   codeOf,
-  fieldOf,
-  fieldBytes,
   nodeSize,
+  layoutOf,
+  stateOf,
   nodeOf,
   roomOf,
   countsOf,
-  dataOf,
   frameAt,
   messageAt,
+  laidAt,
+  listedAt,
+  deliveryAt,
+  stateAt,
   fieldAt,
+  dataAt,
+  noMessage,
+  noDelivery,
+  noState,
+  noStage,
   marked,
   filled,
-  emptied,
-  undelivered,
+  withDeliveries,
+  withStates,
+  withStages,
+  withDelivery,
+  withState,
+  withStage,
+  nodeWith,
+  StoredStage,
+};
+ghost use Rattle.store.specs.Start.{
+  selected,
+  liesIn,
+  laidFrame,
+  names,
+  firstField,
+  startMessage,
+  startMessageOrNone,
+  stateOrNone,
+  startLaid,
+  startFrames,
+  startIndex,
+  startMessages,
+  startStates,
+  startFields,
+  startOf,
   withNumbers,
   withFrames,
   withMessages,
   withFields,
+  withIndex,
   withFrame,
   withMessage,
-  withField,
-  Stored,
-  StoredStage,
-};
-ghost use Rattle.store.specs.Start.{
-  names,
-  firstField,
-  startHead,
-  startMessage,
-  startMessageOrNone,
-  startField,
-  startFrames,
-  startMessages,
-  startFields,
-  startOf,
+  withLaid,
+  withListed,
 };
 use layout::Counts;
+
+// ---- what the layout says
+
+// A frame: its fields are those whose numbers stand in the index from place first on, of that number.
+pub struct Frame {
+    pub length: u8,
+    pub order: u8,
+    pub direction: u8,
+    pub trigger: u8,
+    pub first: u8,
+    pub fields: u8,
+}
+
+// A message: its fields are those from first on, of that number.
+pub struct Message {
+    pub width: u8,
+    pub sign: u8,
+    pub direction: u8,
+    pub agreement: u8,
+    pub filter: u8,
+    pub statusbit: u8,
+    pub first: u8,
+    pub fields: u8,
+    pub x1: u32,
+    pub x2: u32,
+}
+
+// ---- what calls change
+
+// A message's validity, its status, and the patterns of the value that it holds and of the one last put to its filter.
+pub struct MessageState {
+    pub valid: u8,
+    pub status: u8,
+    pub held: u32,
+    pub old: u32,
+}
 
 // A sent field is waiting, loaded or gone; a gone one keeps its byte, so that every byte is a stage.
 pub enum Stage {
@@ -59,33 +118,7 @@ pub enum Stage {
     Gone(u8),
 }
 
-// A frame's cell without its data.
-pub struct Head {
-    pub length: u8,
-    pub order: u8,
-    pub direction: u8,
-    pub trigger: u8,
-    pub delivered: u8,
-}
-
-// A message's cell: its fields are those from first on, of that number.
-pub struct Message {
-    pub width: u8,
-    pub sign: u8,
-    pub direction: u8,
-    pub agreement: u8,
-    pub filter: u8,
-    pub statusbit: u8,
-    pub valid: u8,
-    pub status: u8,
-    pub first: u8,
-    pub fields: u8,
-    pub x1: u32,
-    pub x2: u32,
-    pub held: i64,
-    pub old: i64,
-}
-
+// A field: its record, which the layout says, and its stage, which calls change.
 pub struct Field {
     pub message: u8,
     pub frame: u8,
@@ -97,52 +130,11 @@ pub struct Field {
 
 // ---- cells
 
-fn wide(x: u8) -> u32
-    ensures { λ r. ⌜ (r ≡ x) × (r < 256) ⌝ }
-{
-    x as u32
-}
-
 fn word(c: &[u8], k: usize) -> u32
     requires { ⌜ (k + 4 ≤ length (now c)) × (k < 100) ⌝ }
     ensures { λ r. ⌜ r ≡ wordIn (now (c .entry)) k ⌝ }
 {
-    wide(c[k]) + 256 * (wide(c[k + 1]) + 256 * (wide(c[k + 2]) + 256 * wide(c[k + 3])))
-}
-
-fn read_head(c: &[u8]) -> Head
-    requires { ⌜ length (now c) ≡ 37 ⌝ }
-    ensures { λ r. ⌜ r ≡ headOf (now (c .entry)) ⌝ }
-{
-    Head {
-        length: c[0],
-        order: c[1],
-        direction: c[2],
-        trigger: c[3],
-        delivered: c[4],
-    }
-}
-
-fn read_message(c: &[u8]) -> Message
-    requires { ⌜ length (now c) ≡ 26 ⌝ }
-    ensures { λ r. ⌜ r ≡ messageOf (now (c .entry)) ⌝ }
-{
-    Message {
-        width: c[0],
-        sign: c[1],
-        direction: c[2],
-        agreement: c[3],
-        filter: c[4],
-        statusbit: c[5],
-        valid: c[6],
-        status: c[7],
-        first: c[8],
-        fields: c[9],
-        x1: word(c, 10),
-        x2: word(c, 14),
-        held: packing::value_of(word(c, 18), 32, c[1] == 1),
-        old: packing::value_of(word(c, 22), 32, c[1] == 1),
-    }
+    packing::word_of(c[k], c[k + 1], c[k + 2], c[k + 3])
 }
 
 fn write_word(c: &mut [u8], x: u32)
@@ -155,8 +147,52 @@ fn write_word(c: &mut [u8], x: u32)
     c[3] = (x / 256 / 256 / 256 % 256) as u8;
 }
 
+fn read_frame(c: &[u8]) -> Frame
+    requires { ⌜ length (now c) ≡ 6 ⌝ }
+    ensures { λ r. ⌜ r ≡ frameOf (now (c .entry)) ⌝ }
+{
+    Frame {
+        length: c[0],
+        order: c[1],
+        direction: c[2],
+        trigger: c[3],
+        first: c[4],
+        fields: c[5],
+    }
+}
+
+fn write_frame(c: &mut [u8], h: Frame)
+    requires { ⌜ length (now c) ≡ 6 ⌝ }
+    ensures { λ _. ⌜ now (c .exit) ≡ frameBytes h ⌝ }
+{
+    c[0] = h.length;
+    c[1] = h.order;
+    c[2] = h.direction;
+    c[3] = h.trigger;
+    c[4] = h.first;
+    c[5] = h.fields;
+}
+
+fn read_message(c: &[u8]) -> Message
+    requires { ⌜ length (now c) ≡ 16 ⌝ }
+    ensures { λ r. ⌜ r ≡ messageOf (now (c .entry)) ⌝ }
+{
+    Message {
+        width: c[0],
+        sign: c[1],
+        direction: c[2],
+        agreement: c[3],
+        filter: c[4],
+        statusbit: c[5],
+        first: c[6],
+        fields: c[7],
+        x1: word(c, 8),
+        x2: word(c, 12),
+    }
+}
+
 fn write_message(c: &mut [u8], g: Message)
-    requires { ⌜ length (now c) ≡ 26 ⌝ }
+    requires { ⌜ length (now c) ≡ 16 ⌝ }
     ensures { λ _. ⌜ now (c .exit) ≡ messageBytes g ⌝ }
 {
     c[0] = g.width;
@@ -165,24 +201,68 @@ fn write_message(c: &mut [u8], g: Message)
     c[3] = g.agreement;
     c[4] = g.filter;
     c[5] = g.statusbit;
-    c[6] = g.valid;
-    c[7] = g.status;
-    c[8] = g.first;
-    c[9] = g.fields;
-    write_word(&mut c[10..14], g.x1);
-    write_word(&mut c[14..18], g.x2);
-    write_word(&mut c[18..22], packing::pattern_of(g.held));
-    write_word(&mut c[22..26], packing::pattern_of(g.old));
+    c[6] = g.first;
+    c[7] = g.fields;
+    write_word(&mut c[8..12], g.x1);
+    write_word(&mut c[12..16], g.x2);
+}
+
+fn read_laid(c: &[u8]) -> record::Field
+    requires { ⌜ length (now c) ≡ 5 ⌝ }
+    ensures { λ r. ⌜ r ≡ laidOf (now (c .entry)) ⌝ }
+{
+    record::Field {
+        message: c[0],
+        frame: c[1],
+        start: c[2],
+        status: c[3],
+        place: c[4],
+    }
+}
+
+fn write_laid(c: &mut [u8], x: record::Field)
+    requires { ⌜ length (now c) ≡ 5 ⌝ }
+    ensures { λ _. ⌜ now (c .exit) ≡ laidBytes x ⌝ }
+{
+    c[0] = x.message;
+    c[1] = x.frame;
+    c[2] = x.start;
+    c[3] = x.status;
+    c[4] = x.place;
+}
+
+fn read_state(c: &[u8]) -> MessageState
+    requires { ⌜ length (now c) ≡ 10 ⌝ }
+    ensures { λ r. ⌜ r ≡ messageStateOf (now (c .entry)) ⌝ }
+{
+    MessageState {
+        valid: c[0],
+        status: c[1],
+        held: word(c, 2),
+        old: word(c, 6),
+    }
+}
+
+fn write_state(c: &mut [u8], s: MessageState)
+    requires { ⌜ length (now c) ≡ 10 ⌝ }
+    ensures { λ _. ⌜ now (c .exit) ≡ messageStateBytes s ⌝ }
+{
+    c[0] = s.valid;
+    c[1] = s.status;
+    write_word(&mut c[2..6], s.held);
+    write_word(&mut c[6..10], s.old);
 }
 
 fn stage_of(k: u8) -> Stage
     ensures { λ r. ⌜ r ≡ stageOf k ⌝ }
 {
-    match k {
-        0 => Stage::Waiting,
-        1 => Stage::Loaded,
-        _ => Stage::Gone(k),
+    if k > 1 {
+        return Stage::Gone(k);
     }
+    if k == 1 {
+        return Stage::Loaded;
+    }
+    Stage::Waiting
 }
 
 fn code_of(s: Stage) -> u8
@@ -195,34 +275,37 @@ fn code_of(s: Stage) -> u8
     }
 }
 
-fn read_field(c: &[u8]) -> Field
-    requires { ⌜ length (now c) ≡ 6 ⌝ }
-    ensures { λ r. ⌜ r ≡ fieldOf (now (c .entry)) ⌝ }
+// ---- where there is no message
+
+pub fn no_message() -> Message
+    ensures { λ r. ⌜ r ≡ noMessage ⌝ }
 {
-    Field {
-        message: c[0],
-        frame: c[1],
-        start: c[2],
-        status: c[3],
-        place: c[4],
-        stage: stage_of(c[5]),
+    Message {
+        width: 0,
+        sign: 0,
+        direction: 0,
+        agreement: 0,
+        filter: 0,
+        statusbit: 0,
+        first: 0,
+        fields: 0,
+        x1: 0,
+        x2: 0,
     }
 }
 
-fn write_field(c: &mut [u8], x: Field)
-    requires { ⌜ length (now c) ≡ 6 ⌝ }
-    ensures { λ _. ⌜ now (c .exit) ≡ fieldBytes x ⌝ }
+pub fn no_state() -> MessageState
+    ensures { λ r. ⌜ r ≡ noState ⌝ }
 {
-    c[0] = x.message;
-    c[1] = x.frame;
-    c[2] = x.start;
-    c[3] = x.status;
-    c[4] = x.place;
-    let s = x.stage;
-    c[5] = code_of(s);
+    MessageState {
+        valid: 0,
+        status: 0,
+        held: 0,
+        old: 0,
+    }
 }
 
-// ---- reading the node
+// ---- reading the layout
 
 fn least(k: u8, most: usize) -> usize
     ensures { λ r. ⌜ r ≡ min k most ⌝ }
@@ -234,7 +317,7 @@ fn least(k: u8, most: usize) -> usize
 // How many frames, messages and fields there are.
 pub fn counts(node: &[u8]) -> Counts
     requires { ⌜ length (now node) ≡ nodeSize ⌝ }
-    ensures { λ r. ⌜ r ≡ countsOf (nodeOf (now (node .entry))) ⌝ }
+    ensures { λ r. ⌜ r ≡ countsOf (layoutOf (now (node .entry))) ⌝ }
 {
     Counts {
         frames: least(node[0], 32),
@@ -243,23 +326,66 @@ pub fn counts(node: &[u8]) -> Counts
     }
 }
 
-pub fn head_at(node: &[u8], f: usize) -> Head
+pub fn frame_at(node: &[u8], f: usize) -> Frame
     requires { ⌜ (f < 32) × (length (now node) ≡ nodeSize) ⌝ }
-    ensures { λ r. ⌜ r ≡ frameAt (nodeOf (now (node .entry))) f .head ⌝ }
+    ensures { λ r. ⌜ r ≡ frameAt (layoutOf (now (node .entry))) f ⌝ }
 {
-    let at = 3 + f * 37;
-    let end = at + 37;
-    read_head(&node[at..end])
+    let at = 3 + f * 6;
+    let end = at + 6;
+    read_frame(&node[at..end])
+}
+
+pub fn message_at(node: &[u8], m: usize) -> Message
+    requires { ⌜ (m < 32) × (length (now node) ≡ nodeSize) ⌝ }
+    ensures { λ r. ⌜ r ≡ messageAt (layoutOf (now (node .entry))) m ⌝ }
+{
+    let at = 195 + m * 16;
+    let end = at + 16;
+    read_message(&node[at..end])
+}
+
+// What the layout says of a field.
+pub fn laid_at(node: &[u8], d: usize) -> record::Field
+    requires { ⌜ (d < 128) × (length (now node) ≡ nodeSize) ⌝ }
+    ensures { λ r. ⌜ r ≡ laidAt (layoutOf (now (node .entry))) d ⌝ }
+{
+    let at = 707 + d * 5;
+    let end = at + 5;
+    read_laid(&node[at..end])
+}
+
+// The number of the field at a place of the index.
+pub fn listed_at(node: &[u8], i: usize) -> u8
+    requires { ⌜ (i < 128) × (length (now node) ≡ nodeSize) ⌝ }
+    ensures { λ r. ⌜ r ≡ listedAt (layoutOf (now (node .entry))) i ⌝ }
+{
+    node[1347 + i]
+}
+
+// ---- reading the state
+
+// Whether a frame was delivered this round: any byte but 0.
+pub fn mark_at(node: &[u8], f: usize) -> u8
+    requires { ⌜ (f < 32) × (length (now node) ≡ nodeSize) ⌝ }
+    ensures { λ r. ⌜ r ≡ deliveryAt (stateOf (now (node .entry))) f .delivered ⌝ }
+{
+    node[1475 + f * 33]
+}
+
+// How many of a frame's 32 bytes of room are data.
+pub fn data_length(h: Frame) -> usize
+    ensures { λ r. ⌜ r ≡ min (h .length) 32 ⌝ }
+{
+    least(h.length, 32)
 }
 
 // The data of a frame, where they lie.
 pub fn data_at(node: &[u8], f: usize) -> &[u8]
     requires { ⌜ (f < 32) × (length (now node) ≡ nodeSize) ⌝ }
-    ensures { λ r. ⌜ now r ≡ dataOf (frameAt (nodeOf (now (node .entry))) f) ⌝ }
+    ensures { λ r. ⌜ now r ≡ dataAt (nodeOf (now (node .entry))) f ⌝ }
 {
-    let at = 3 + f * 37;
-    let from = at + 5;
-    let end = from + least(node[at], 32);
+    let from = 1475 + f * 33 + 1;
+    let end = from + least(node[3 + f * 6], 32);
     &node[from..end]
 }
 
@@ -268,45 +394,44 @@ pub fn room_at(node: &[u8], f: usize) -> &[u8]
     requires { ⌜ (f < 32) × (length (now node) ≡ nodeSize) ⌝ }
     ensures { λ r. ⌜ now r ≡ roomOf (now (node .entry)) f ⌝ }
 {
-    let at = 3 + f * 37;
-    let from = at + 5;
+    let from = 1475 + f * 33 + 1;
     let end = from + 40;
     &node[from..end]
 }
 
-// How many of the room's bytes are data.
-pub fn data_length(h: Head) -> usize
-    ensures { λ r. ⌜ r ≡ min (h .length) 32 ⌝ }
-{
-    least(h.length, 32)
-}
-
-pub fn message_at(node: &[u8], m: usize) -> Message
+pub fn state_at(node: &[u8], m: usize) -> MessageState
     requires { ⌜ (m < 32) × (length (now node) ≡ nodeSize) ⌝ }
-    ensures { λ r. ⌜ r ≡ messageAt (nodeOf (now (node .entry))) m ⌝ }
+    ensures { λ r. ⌜ r ≡ stateAt (stateOf (now (node .entry))) m ⌝ }
 {
-    let at = 1187 + m * 26;
-    let end = at + 26;
-    read_message(&node[at..end])
+    let at = 2531 + m * 10;
+    let end = at + 10;
+    read_state(&node[at..end])
 }
 
+// A field with its stage.
 pub fn field_at(node: &[u8], d: usize) -> Field
     requires { ⌜ (d < 128) × (length (now node) ≡ nodeSize) ⌝ }
     ensures { λ r. ⌜ r ≡ fieldAt (nodeOf (now (node .entry))) d ⌝ }
 {
-    let at = 2019 + d * 6;
-    let end = at + 6;
-    read_field(&node[at..end])
+    let x = laid_at(node, d);
+    Field {
+        message: x.message,
+        frame: x.frame,
+        start: x.start,
+        status: x.status,
+        place: x.place,
+        stage: stage_of(node[2851 + d]),
+    }
 }
 
-// ---- writing the node
+// ---- writing the state
 
 // Whether a frame was delivered this round.
-pub fn put_delivered(node: &mut [u8], f: usize, k: u8)
+pub fn put_mark(node: &mut [u8], f: usize, k: u8)
     requires { ⌜ (f < 32) × (length (now node) ≡ nodeSize) ⌝ }
-    ensures { λ _. ⌜ nodeOf (now (node .exit)) ≡ withFrame (nodeOf (now (node .entry))) f (marked k (frameAt (nodeOf (now (node .entry))) f)) ⌝ }
+    ensures { λ _. ⌜ nodeOf (now (node .exit)) ≡ nodeWith (nodeOf (now (node .entry))) (withDelivery (stateOf (now (node .entry))) f (marked k (deliveryAt (stateOf (now (node .entry))) f))) ⌝ }
 {
-    node[3 + f * 37 + 4] = k;
+    node[1475 + f * 33] = k;
 }
 
 fn copy(to: &mut [u8], from: &[u8])
@@ -321,88 +446,153 @@ fn copy(to: &mut [u8], from: &[u8])
 // A delivery's data over those of the frame.
 pub fn put_data(node: &mut [u8], f: usize, bytes: &[u8])
     requires { ⌜ (f < 32) × (length (now bytes) ≤ 32) × (length (now node) ≡ nodeSize) ⌝ }
-    ensures { λ _. ⌜ nodeOf (now (node .exit)) ≡ withFrame (nodeOf (now (node .entry))) f (filled (frameAt (nodeOf (now (node .entry))) f) (now (bytes .entry))) ⌝ }
+    ensures { λ _. ⌜ nodeOf (now (node .exit)) ≡ nodeWith (nodeOf (now (node .entry))) (withDelivery (stateOf (now (node .entry))) f (filled (deliveryAt (stateOf (now (node .entry))) f) (now (bytes .entry)))) ⌝ }
 {
-    let at = 3 + f * 37 + 5;
+    let at = 1475 + f * 33 + 1;
     let end = at + 32;
     copy(&mut node[at..end], bytes);
 }
 
-// A frame's cell with nothing delivered.
-fn put_frame(node: &mut [u8], f: usize, h: Head)
+// The data of a delivery go too, so that of two nodes one cannot tell what an earlier round brought.
+pub fn forget_delivery(node: &mut [u8], f: usize)
     requires { ⌜ (f < 32) × (length (now node) ≡ nodeSize) ⌝ }
-    ensures { λ _. ⌜ nodeOf (now (node .exit)) ≡ withFrame (nodeOf (now (node .entry))) f (emptied h) ⌝ }
+    ensures { λ _. ⌜ nodeOf (now (node .exit)) ≡ nodeWith (nodeOf (now (node .entry))) (withDelivery (stateOf (now (node .entry))) f noDelivery) ⌝ }
 {
-    let at = 3 + f * 37;
-    let end = at + 37;
+    let at = 1475 + f * 33;
+    let end = at + 33;
+    copy(&mut node[at..end], &[0u8; 33]);
+}
+
+pub fn put_state(node: &mut [u8], m: usize, s: MessageState)
+    requires { ⌜ (m < 32) × (length (now node) ≡ nodeSize) ⌝ }
+    ensures { λ _. ⌜ nodeOf (now (node .exit)) ≡ nodeWith (nodeOf (now (node .entry))) (withState (stateOf (now (node .entry))) m s) ⌝ }
+{
+    let at = 2531 + m * 10;
+    let end = at + 10;
+    write_state(&mut node[at..end], s);
+}
+
+pub fn put_stage(node: &mut [u8], d: usize, s: Stage)
+    requires { ⌜ (d < 128) × (StoredStage s) × (length (now node) ≡ nodeSize) ⌝ }
+    ensures { λ _. ⌜ nodeOf (now (node .exit)) ≡ nodeWith (nodeOf (now (node .entry))) (withStage (stateOf (now (node .entry))) d s) ⌝ }
+{
+    node[2851 + d] = code_of(s);
+}
+
+// ---- writing the layout
+
+fn put_counts(node: &mut [u8], frames: u8, messages: u8, fields: u8)
+    requires { ⌜ length (now node) ≡ nodeSize ⌝ }
+    ensures { λ _. ⌜ nodeOf (now (node .exit)) ≡ record { layout = withNumbers (layoutOf (now (node .entry))) frames messages fields; state = stateOf (now (node .entry)) } ⌝ }
+{
+    node[0] = frames;
+    node[1] = messages;
+    node[2] = fields;
+}
+
+fn put_frame(node: &mut [u8], f: usize, h: Frame)
+    requires { ⌜ (f < 32) × (length (now node) ≡ nodeSize) ⌝ }
+    ensures { λ _. ⌜ nodeOf (now (node .exit)) ≡ record { layout = withFrame (layoutOf (now (node .entry))) f h; state = stateOf (now (node .entry)) } ⌝ }
+{
+    let at = 3 + f * 6;
+    let end = at + 6;
     write_frame(&mut node[at..end], h);
 }
 
-fn write_frame(c: &mut [u8], h: Head)
-    requires { ⌜ length (now c) ≡ 37 ⌝ }
-    ensures { λ _. ⌜ now (c .exit) ≡ frameBytes (emptied h) ⌝ }
+fn put_message(node: &mut [u8], m: usize, g: Message)
+    requires { ⌜ (m < 32) × (length (now node) ≡ nodeSize) ⌝ }
+    ensures { λ _. ⌜ nodeOf (now (node .exit)) ≡ record { layout = withMessage (layoutOf (now (node .entry))) m g; state = stateOf (now (node .entry)) } ⌝ }
 {
-    c[0] = h.length;
-    c[1] = h.order;
-    c[2] = h.direction;
-    c[3] = h.trigger;
-    c[4] = h.delivered;
-    copy(&mut c[5..37], &[0u8; 32]);
-}
-
-// Its data go too, so that of two nodes one cannot tell what an earlier round brought.
-pub fn forget_delivery(node: &mut [u8], f: usize)
-    requires { ⌜ (f < 32) × (length (now node) ≡ nodeSize) ⌝ }
-    ensures { λ _. ⌜ nodeOf (now (node .exit)) ≡ withFrame (nodeOf (now (node .entry))) f (undelivered (frameAt (nodeOf (now (node .entry))) f)) ⌝ }
-{
-    let mut h = head_at(&node[..], f);
-    h.delivered = 0;
-    put_frame(node, f, h);
-}
-
-pub fn put_message(node: &mut [u8], m: usize, g: Message)
-    requires { ⌜ (m < 32) × (Stored g) × (length (now node) ≡ nodeSize) ⌝ }
-    ensures { λ _. ⌜ nodeOf (now (node .exit)) ≡ withMessage (nodeOf (now (node .entry))) m g ⌝ }
-{
-    let at = 1187 + m * 26;
-    let end = at + 26;
+    let at = 195 + m * 16;
+    let end = at + 16;
     write_message(&mut node[at..end], g);
 }
 
-pub fn put_field(node: &mut [u8], d: usize, x: Field)
-    requires { ⌜ (d < 128) × (StoredStage (x .stage)) × (length (now node) ≡ nodeSize) ⌝ }
-    ensures { λ _. ⌜ nodeOf (now (node .exit)) ≡ withField (nodeOf (now (node .entry))) d x ⌝ }
+fn put_laid(node: &mut [u8], d: usize, x: record::Field)
+    requires { ⌜ (d < 128) × (length (now node) ≡ nodeSize) ⌝ }
+    ensures { λ _. ⌜ nodeOf (now (node .exit)) ≡ record { layout = withLaid (layoutOf (now (node .entry))) d x; state = stateOf (now (node .entry)) } ⌝ }
 {
-    let at = 2019 + d * 6;
-    let end = at + 6;
-    write_field(&mut node[at..end], x);
+    let at = 707 + d * 5;
+    let end = at + 5;
+    write_laid(&mut node[at..end], x);
 }
 
-// ---- the start
-
-// Frame f of the layout, or of none.
-fn start_head(file: &[u8], frames: usize, f: usize) -> Head
-    requires { ⌜ f < 32 ⌝ }
-    ensures { λ r. ⌜ r ≡ startHead (now (file .entry)) frames f ⌝ }
+fn put_listed(node: &mut [u8], i: usize, d: u8)
+    requires { ⌜ (i < 128) × (length (now node) ≡ nodeSize) ⌝ }
+    ensures { λ _. ⌜ nodeOf (now (node .exit)) ≡ record { layout = withListed (layoutOf (now (node .entry))) i d; state = stateOf (now (node .entry)) } ⌝ }
 {
-    if frames <= f {
-        return Head {
+    node[1347 + i] = d;
+}
+
+// ---- the start: frames and the index
+
+// Frame f of the layout, whose fields stand in the index from place first on, or none.
+fn laid_frame(file: &[u8], frames: usize, f: u8, first: u8, fields: u8) -> Frame
+    ensures { λ r. ⌜ r ≡ laidFrame (now (file .entry)) frames f first fields ⌝ }
+{
+    if frames <= f as usize {
+        return Frame {
             length: 0,
             order: 0,
             direction: 0,
             trigger: 0,
-            delivered: 0,
+            first: 0,
+            fields: 0,
         };
     }
-    let h = record::frame_at(file, f);
-    Head {
+    let h = record::frame_at(file, f as usize);
+    Frame {
         length: h.length,
         order: h.order,
         direction: h.direction,
         trigger: h.trigger,
-        delivered: 0,
+        first,
+        fields,
     }
 }
+
+// The numbers of the fields that lie in frame f go into the index from a place on; gives the place after them.
+fn list_fields(node: &mut [u8], file: &[u8], at: usize, fields: usize, f: u8, from: usize) -> usize
+    requires { ⌜ (at ≤ 64) × (fields ≤ 128) × (from + tally (liesIn (now file) at f) fields ≤ 128) × (length (now node) ≡ nodeSize) ⌝ }
+    ensures { λ r. ⌜ (r ≡ from + tally (liesIn (now (file .entry)) at f) fields) × (nodeOf (now (node .exit)) ≡ record { layout = withIndex (layoutOf (now (node .entry))) (paste (layoutOf (now (node .entry)) .index) from (selected (liesIn (now (file .entry)) at f) fields) (tally (liesIn (now (file .entry)) at f) fields)); state = stateOf (now (node .entry)) }) ⌝ }
+{
+    let mut k = from;
+    for d in 0..fields {
+        let x = record::field_at(file, at + d);
+        if x.frame == f {
+            put_listed(&mut *node, k, d as u8);
+            k += 1;
+        }
+    }
+    k
+}
+
+fn clear_index(node: &mut [u8])
+    requires { ⌜ length (now node) ≡ nodeSize ⌝ }
+    ensures { λ _. ⌜ nodeOf (now (node .exit)) ≡ record { layout = withIndex (layoutOf (now (node .entry))) (replicate 128 0); state = stateOf (now (node .entry)) } ⌝ }
+{
+    for i in 0usize..128 {
+        put_listed(&mut *node, i, 0);
+    }
+}
+
+// The frames, none of them delivered, and the index over zeros.
+fn start_frames(node: &mut [u8], file: &[u8], frames: usize, at: usize, fields: usize)
+    requires { ⌜ (at ≤ 64) × (fields ≤ 128) × (length (now node) ≡ nodeSize) ⌝ }
+    ensures { λ _. ⌜ nodeOf (now (node .exit)) ≡ record { layout = withIndex (withFrames (layoutOf (now (node .entry))) (startFrames (now (file .entry)) frames at fields)) (startIndex (now (file .entry)) at fields); state = withDeliveries (stateOf (now (node .entry))) (replicate 32 noDelivery) } ⌝ }
+{
+    clear_index(&mut *node);
+    let mut k = 0;
+    for f in 0u8..32 {
+        let end = list_fields(&mut *node, file, at, fields, f, k);
+        let h = laid_frame(file, frames, f, k as u8, (end - k) as u8);
+        put_frame(&mut *node, f as usize, h);
+        forget_delivery(&mut *node, f as usize);
+        k = end;
+    }
+}
+
+// ---- the start: messages
 
 // The first of the fields, whose records begin at `at`, that names message m.
 fn first_field(file: &[u8], at: usize, fields: usize, m: u8) -> usize
@@ -436,12 +626,11 @@ fn field_number(file: &[u8], at: usize, fields: usize, m: u8) -> usize
 // Message m of the layout.
 fn start_message(file: &[u8], frames: usize, at: usize, fields: usize, m: u8) -> Message
     requires { ⌜ (frames ≤ 32) × (at ≤ 64) × (fields ≤ 128) ⌝ }
-    ensures { λ r. ⌜ (r ≡ startMessage (now (file .entry)) frames at fields m) × (Stored r) ⌝ }
+    ensures { λ r. ⌜ r ≡ startMessage (now (file .entry)) frames at fields m ⌝ }
 {
     let g = record::message_at(file, frames + m as usize);
     let first = first_field(file, at, fields, m);
     let x = record::field_at(file, at + first);
-    let initial = packing::value_of(g.initial, 32, g.sign == 1);
     Message {
         width: g.width,
         sign: g.sign,
@@ -449,14 +638,10 @@ fn start_message(file: &[u8], frames: usize, at: usize, fields: usize, m: u8) ->
         agreement: g.agreement,
         filter: g.filter,
         statusbit: x.status,
-        valid: (x.status == 0) as u8,
-        status: 21,
         first: first as u8,
         fields: field_number(file, at, fields, m) as u8,
         x1: g.x1,
         x2: g.x2,
-        held: initial,
-        old: initial,
     }
 }
 
@@ -469,93 +654,71 @@ fn start_message_or_none(
     m: u8,
 ) -> Message
     requires { ⌜ (frames ≤ 32) × (messages ≤ 32) × (fields ≤ 128) ⌝ }
-    ensures { λ r. ⌜ (r ≡ startMessageOrNone (now (file .entry)) frames messages fields m) × (Stored r) ⌝ }
+    ensures { λ r. ⌜ r ≡ startMessageOrNone (now (file .entry)) frames messages fields m ⌝ }
 {
     if (m as usize) < messages {
         return start_message(file, frames, frames + messages, fields, m);
     }
-    Message {
-        width: 0,
-        sign: 0,
-        direction: 0,
-        agreement: 0,
-        filter: 0,
-        statusbit: 0,
-        valid: 0,
-        status: 0,
-        first: 0,
-        fields: 0,
-        x1: 0,
-        x2: 0,
-        held: 0,
-        old: 0,
+    no_message()
+}
+
+// The state of message m at start, which has a status bit or none, or that of no message.
+fn state_or_none(file: &[u8], frames: usize, messages: usize, m: u8, statusbit: u8) -> MessageState
+    requires { ⌜ frames ≤ 32 ⌝ }
+    ensures { λ r. ⌜ r ≡ stateOrNone (now (file .entry)) frames messages statusbit m ⌝ }
+{
+    if (m as usize) < messages {
+        let g = record::message_at(file, frames + m as usize);
+        return MessageState {
+            valid: (statusbit == 0) as u8,
+            status: 21,
+            held: g.initial,
+            old: g.initial,
+        };
+    }
+    no_state()
+}
+
+fn start_messages(node: &mut [u8], file: &[u8], frames: usize, messages: usize, fields: usize)
+    requires { ⌜ (frames ≤ 32) × (messages ≤ 32) × (fields ≤ 128) × (length (now node) ≡ nodeSize) ⌝ }
+    ensures { λ _. ⌜ nodeOf (now (node .exit)) ≡ record { layout = withMessages (layoutOf (now (node .entry))) (startMessages (now (file .entry)) frames messages fields); state = withStates (stateOf (now (node .entry))) (startStates (now (file .entry)) frames messages fields) } ⌝ }
+{
+    for m in 0u8..32 {
+        let g = start_message_or_none(file, frames, messages, fields, m);
+        let s = state_or_none(file, frames, messages, m, g.statusbit);
+        put_message(&mut *node, m as usize, g);
+        put_state(&mut *node, m as usize, s);
     }
 }
 
-// Field d of the layout, whose fields' records begin at `at`, or none: gone.
-fn start_field(file: &[u8], at: usize, fields: usize, d: usize) -> Field
+// ---- the start: fields
+
+// What the layout, whose fields' records begin at `at`, says of field d, or of none.
+fn start_laid(file: &[u8], at: usize, fields: usize, d: usize) -> record::Field
     requires { ⌜ (at ≤ 64) × (d < 128) ⌝ }
-    ensures { λ r. ⌜ (r ≡ startField (now (file .entry)) at fields d) × (StoredStage (r .stage)) ⌝ }
+    ensures { λ r. ⌜ r ≡ startLaid (now (file .entry)) at fields d ⌝ }
 {
     if fields <= d {
-        return Field {
+        return record::Field {
             message: 0,
             frame: 0,
             start: 0,
             status: 0,
             place: 0,
-            stage: Stage::Gone(2),
         };
     }
-    let x = record::field_at(file, at + d);
-    Field {
-        message: x.message,
-        frame: x.frame,
-        start: x.start,
-        status: x.status,
-        place: x.place,
-        stage: Stage::Gone(2),
-    }
+    record::field_at(file, at + d)
 }
 
-fn start_frames(node: &mut [u8], file: &[u8], frames: usize)
-    requires { ⌜ length (now node) ≡ nodeSize ⌝ }
-    ensures { λ _. ⌜ nodeOf (now (node .exit)) ≡ withFrames (nodeOf (now (node .entry))) (startFrames (now (file .entry)) frames) ⌝ }
-{
-    for f in 0usize..32 {
-        put_frame(&mut *node, f, start_head(file, frames, f));
-    }
-}
-
-fn start_messages(node: &mut [u8], file: &[u8], frames: usize, messages: usize, fields: usize)
-    requires { ⌜ (frames ≤ 32) × (messages ≤ 32) × (fields ≤ 128) × (length (now node) ≡ nodeSize) ⌝ }
-    ensures { λ _. ⌜ nodeOf (now (node .exit)) ≡ withMessages (nodeOf (now (node .entry))) (startMessages (now (file .entry)) frames messages fields) ⌝ }
-{
-    for m in 0u8..32 {
-        put_message(
-            &mut *node,
-            m as usize,
-            start_message_or_none(file, frames, messages, fields, m),
-        );
-    }
-}
-
+// All fields are gone.
 fn start_fields(node: &mut [u8], file: &[u8], at: usize, fields: usize)
     requires { ⌜ (at ≤ 64) × (length (now node) ≡ nodeSize) ⌝ }
-    ensures { λ _. ⌜ nodeOf (now (node .exit)) ≡ withFields (nodeOf (now (node .entry))) (startFields (now (file .entry)) at fields) ⌝ }
+    ensures { λ _. ⌜ nodeOf (now (node .exit)) ≡ record { layout = withFields (layoutOf (now (node .entry))) (startFields (now (file .entry)) at fields); state = withStages (stateOf (now (node .entry))) (replicate 128 noStage) } ⌝ }
 {
     for d in 0usize..128 {
-        put_field(&mut *node, d, start_field(file, at, fields, d));
+        put_laid(&mut *node, d, start_laid(file, at, fields, d));
+        put_stage(&mut *node, d, Stage::Gone(2));
     }
-}
-
-fn put_counts(node: &mut [u8], frames: u8, messages: u8, fields: u8)
-    requires { ⌜ length (now node) ≡ nodeSize ⌝ }
-    ensures { λ _. ⌜ nodeOf (now (node .exit)) ≡ withNumbers (nodeOf (now (node .entry))) frames messages fields ⌝ }
-{
-    node[0] = frames;
-    node[1] = messages;
-    node[2] = fields;
 }
 
 // The node of an accepted layout file, over whatever the memory held.
@@ -564,7 +727,7 @@ pub fn start(node: &mut [u8], file: &[u8], frames: usize, messages: usize, field
     ensures { λ _. ⌜ nodeOf (now (node .exit)) ≡ startOf (now (file .entry)) frames messages fields ⌝ }
 {
     put_counts(&mut *node, frames as u8, messages as u8, fields as u8);
-    start_frames(&mut *node, file, frames);
+    start_frames(&mut *node, file, frames, frames + messages, fields);
     start_messages(&mut *node, file, frames, messages, fields);
     start_fields(node, file, frames + messages, fields);
 }

@@ -6,7 +6,7 @@ use native.Mathlib.Omega.{arith}
 use lib.ListN.{length}
 use borrow.Author.Needs.{needs}
 use borrow.Author.Tests.{ne-eqb}
-use Rattle.store.specs.Node.{nodeOf}
+use Rattle.store.specs.Node.{layoutOf, nodeOf}
 use Rattle.node.specs.Calls.{assembleAnswer, assembleOf, assembled}
 use Rattle.node.proofs.Answers.{in-memory}
 use Rattle.node.proofs.Outcomes.{untouched, done}
@@ -37,19 +37,16 @@ in-cell : (c : tie.Else1) → c .before .before .before .before .before .args .f
 unfolding assembleAnswer
 in-cell c =
     let args = c .before .before .before .before .before .args in
-    in-memory (args .frame) (nodeOf (args .node .now) .frame-number) _ _ (accepted c)
+    in-memory (args .frame) (layoutOf (args .node .now) .frame-number) _ _ (accepted c)
 
 cast-f : tie.Need-cast-f
 cast-f c = omega (arith, in-cell c)
 
-head-at-requires : tie.Need-head-at-requires
-head-at-requires c κs = (in-cell (c .before), search needs)
+frame-at-requires : tie.Need-frame-at-requires
+frame-at-requires c κs = (in-cell (c .before), search needs)
 
-write-fields-requires : tie.Need-write-fields-requires
-write-fields-requires c κs = (in-cell (c .before .before .before .before), search needs)
-
-move-fields-requires : tie.Need-move-fields-requires
-move-fields-requires c κs = (in-cell (c .before .before .before .before .before .before .before .before), search needs)
+load-fields-requires : tie.Need-load-fields-requires
+load-fields-requires c κs = (in-cell (c .before .before .before .before), search needs)
 
 same-length-2 : tie.Need-same-length-2
 same-length-2 c = search needs
@@ -60,13 +57,12 @@ same-length-3 c = search needs
 returns-2 : tie.Need-returns-2
 unfolding assembleOf assembled
 returns-2 c =
-    let move = c .before .before in
-    let write = move .before .before .before .before in
-    let head = write .before .before .before in
-    let answer = head .before .before in
+    let load = c .before .before .before .before in
+    let frame = load .before .before .before in
+    let answer = frame .before .before in
     let args = answer .before .before .before .before .before .args in (
-      done _ _ _ (nodeOf (args .node .now)) (accepted answer) (move .move-fields .ensures),
-      rw (accepted answer) (rw (head .head-at .ensures) at (write .write-fields .ensures)),
+      done _ _ _ (nodeOf (args .node .now)) (accepted answer) (load .load-fields .ensures .0),
+      rw (accepted answer) (rw (frame .frame-at .ensures) at (load .load-fields .ensures .1)),
     )
 
 pub assemble-spec : {M : Type 1} → statement M
@@ -77,9 +73,8 @@ assemble-spec =
     same-length
     returns
     cast-f
-    head-at-requires
-    write-fields-requires
-    move-fields-requires
+    frame-at-requires
+    load-fields-requires
     same-length-2
     same-length-3
     returns-2)

@@ -15,15 +15,15 @@ returns : tie.Need-returns
 unfolding assembleAnswer
 returns c = rw (le-ltb _ _ (rw (c .before .counts .ensures) at (c .if1 .taken)))
 
-head-at-requires : tie.Need-head-at-requires
-head-at-requires c κs =
+frame-at-requires : tie.Need-frame-at-requires
+frame-at-requires c κs =
     (omega (arith, ap (λ (k : Counts). k .frames) (c .before .counts .ensures)), c .before .before .before .pre)
 
 returns-2 : tie.Need-returns-2
 unfolding assembleAnswer
 returns-2 c =
     let number = c .before .before .before in
-    rw (lt-ltb _ _ (rw (number .before .counts .ensures) at (number .if1 .left)), rw (c .before .before .head-at .ensures) at (c .if2 .taken))
+    rw (lt-ltb _ _ (rw (number .before .counts .ensures) at (number .if1 .left)), rw (c .before .before .frame-at .ensures) at (c .if2 .taken))
 
 cast-if3 : tie.Need-cast-if3
 cast-if3 c = search needs
@@ -32,7 +32,7 @@ returns-3 : tie.Need-returns-3
 unfolding assembleAnswer
 returns-3 c =
     let access = c .before .before in
-    let read = access .before .before .head-at .ensures in
+    let read = access .before .before .frame-at .ensures in
     let number = access .before .before .before in
     rw (lt-ltb _ _ (rw (number .before .counts .ensures) at (number .if1 .left)), rw read at (access .if2 .left))
     (rw (rw read at (c .if3 .taken)))
@@ -51,7 +51,7 @@ unfolding assembleAnswer
 returns-4 c =
     let size = c .before .before in
     let access = size .before .before in
-    let read = access .before .before .head-at .ensures in
+    let read = access .before .before .frame-at .ensures in
     let number = access .before .before .before in
     rw (lt-ltb _ _ (rw (number .before .counts .ensures) at (number .if1 .left)), rw read at (access .if2 .left))
     (rw (rw read at (size .if3 .left), sym (c .before .is-suppressed .ensures) ∙ c .if4 .taken))
@@ -61,7 +61,7 @@ unfolding assembleAnswer
 returns-5 c =
     let size = c .before .before in
     let access = size .before .before in
-    let read = access .before .before .head-at .ensures in
+    let read = access .before .before .frame-at .ensures in
     let number = access .before .before .before in
     rw (lt-ltb _ _ (rw (number .before .counts .ensures) at (number .if1 .left)), rw read at (access .if2 .left))
     (rw (rw read at (size .if3 .left), sym (c .before .is-suppressed .ensures) ∙ c .if4 .left))
@@ -72,7 +72,7 @@ assemble-answer-spec =
     (tie.spec
     counts-requires
     returns
-    head-at-requires
+    frame-at-requires
     returns-2
     cast-if3
     returns-3

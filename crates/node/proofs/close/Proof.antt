@@ -1,10 +1,10 @@
 -- `node::close` meets its contract: the messages are closed, and then the deliveries forgotten.
 -- Assumes nothing.
-use mathlib.Core.Path.{ap, _∙_}
+use mathlib.Core.Path.{refl, ap, _∙_}
 use borrow.Author.Needs.{needs}
-use Rattle.store.specs.Node.{Node}
-use Rattle.node.specs.Calls.{outcome}
+use Rattle.store.specs.Node.{Node, nodeOf, nodeWith}
 use Rattle.node.specs.Closing.{forget, closeOf}
+use Rattle.node.proofs.Outcomes.{done}
 use Rattle.node.proofs.close.Statement.{statement}
 use Rattle.node.proofs.close.Tie as tie
 
@@ -22,7 +22,9 @@ unfolding closeOf
 returns c =
     let forgotten = c .before .before in
     let closed = forgotten .before .before .before .before in
-    ap (λ (n : Node). outcome 0 n n) (forgotten .forget-deliveries .ensures ∙ ap forget (closed .close-messages .ensures))
+    let n = nodeOf (closed .before .before .before .args .node .now) in
+    done 0 _ (closeOf n) n refl
+    (forgotten .forget-deliveries .ensures ∙ ap (λ (i : Node). nodeWith i (forget (i .layout) (i .state))) (closed .close-messages .ensures))
 
 pub close-spec : {M : Type 1} → statement M
 close-spec =

@@ -1,5 +1,5 @@
--- `node::close_messages` meets its contract. The invariant: the first m messages are closed. Message m is read and closed as it was when the closing
--- began, and what was stored then has room when it is closed.
+-- `node::close_messages` meets its contract. The invariant: the first m messages are closed. Message m is closed as the node was when the closing
+-- began.
 -- Assumes nothing.
 use mathlib.Core.Path.{_≡_, refl, ap, _∙_}
 use mathlib.Core.Logic.{⊎-elim}
@@ -9,14 +9,14 @@ use lib.ListN.{length}
 use borrow.Author.Tests.{not-true, not-false}
 use borrow.Author.Needs.{needs}
 use Rattle.layout.specs.declared.Counts.{Counts}
-use Rattle.store.specs.Node.{nodeSize, nodeOf, messageCount}
-use Rattle.store.proofs.Laws.{messages-length, message-stored}
-use Rattle.node.proofs.Rounds.{closed-stored, closedTo, closed-then, close-turn, close-skip, close-end}
+use Rattle.store.specs.Node.{nodeSize, layoutOf, stateOf, nodeOf, messageCount}
+use Rattle.store.proofs.Laws.{states-length}
+use Rattle.node.proofs.Rounds.{closedTo, close-turn, close-skip, close-end}
 use Rattle.node.proofs.close_messages.Statement.{statement}
 use Rattle.node.proofs.close_messages.Tie as tie
 
 abbrev Inv-loop : tie.InvT-loop
-Inv-loop node₀ messages m₀ node m = (messages ≡ messageCount (nodeOf node₀)) × (length node ≡ nodeSize) × (nodeOf node ≡ closedTo (nodeOf node₀) m)
+Inv-loop node₀ messages m₀ node m = (messages ≡ messageCount (layoutOf node₀)) × (length node ≡ nodeSize) × (nodeOf node ≡ closedTo (nodeOf node₀) m)
 
 abbrev μ-loop : tie.MeasureT-loop
 μ-loop node₀ messages m₀ node m = messages - m
@@ -25,32 +25,22 @@ counts-requires : tie.Need-counts-requires Inv-loop μ-loop
 counts-requires c κs = search needs
 
 loop-holds : tie.Need-loop-holds Inv-loop μ-loop
-loop-holds c =
-    let start = c .before .before .before in
-    (ap (λ (r : Counts). r .messages) (c .counts .ensures), start .pre, refl)
+loop-holds c = (ap (λ (r : Counts). r .messages) (c .counts .ensures), search needs, refl)
 
 message-at-requires : tie.Need-message-at-requires Inv-loop μ-loop
 message-at-requires c κs = search needs
 
-cast-closed-message : tie.Need-cast-closed-message Inv-loop μ-loop
-cast-closed-message c = search needs
+state-at-requires : tie.Need-state-at-requires Inv-loop μ-loop
+state-at-requires c κs = search needs
 
-closed-message-requires : tie.Need-closed-message-requires Inv-loop μ-loop
-closed-message-requires c κs = search needs
+cast-closed-state : tie.Need-cast-closed-state Inv-loop μ-loop
+cast-closed-state c = search needs
 
-put-message-requires : tie.Need-put-message-requires Inv-loop μ-loop
-put-message-requires c κs =
-    let read = c .before .before .before .before .before in
-    let loop = read .before .before .before in
-    let known = loop .before .before .before in
-    let b = known .before .args .node .now in
-    let m = loop .loop .m in
-    let closed = closed-then (nodeOf b) m (omega (arith, messages-length b)) (loop .loop .inv .2) (read .message-at .ensures) in (
-      search needs,
-      rw (c .before .closed-message .ensures, closed)
-          (closed-stored (nodeOf b) m _ (message-stored b (λ i. known .slice-known .given i .fits) m)),
-      search needs,
-    )
+closed-state-requires : tie.Need-closed-state-requires Inv-loop μ-loop
+closed-state-requires c κs = search needs
+
+put-state-requires : tie.Need-put-state-requires Inv-loop μ-loop
+put-state-requires c κs = search needs
 
 add-m : tie.Need-add-m Inv-loop μ-loop
 add-m c = search needs
@@ -64,21 +54,17 @@ loop-again c =
     let loop = read .before .before .before in
     let b = loop .before .before .before .before .args .node .now in
     let m = loop .loop .m in
-    let room : m < length (nodeOf b .messages) = omega (arith, messages-length b) in
-    let so-far = loop .loop .inv .2 in
+    let room : m < length (stateOf b .messages) = omega (arith, states-length b) in
+    let inv = loop .loop .inv in
     ⊎-elim
     (λ w.
-    rw (w .7) (
-      loop .loop .inv .0,
+    rw (w .9) (
+      inv .0,
       search needs,
-      close-turn (nodeOf b) m room so-far (read .message-at .ensures) (omega arith) (not-true _ (w .0 .taken)) (w .2 .ensures) (w .4 .ensures),
+      close-turn (nodeOf b) m room (inv .2) (read .message-at .ensures) (omega arith) (not-true _ (w .0 .taken)) (w .2 .ensures) (w .4 .ensures)
+          (w .6 .ensures),
     ))
-    (λ w.
-    rw (w .1) (
-      loop .loop .inv .0,
-      loop .loop .inv .1,
-      close-skip (nodeOf b) m room so-far (read .message-at .ensures) (omega arith) (not-false _ (w .0 .left)),
-    ))
+    (λ w. rw (w .1) (inv .0, inv .1, close-skip (nodeOf b) m room (inv .2) (read .message-at .ensures) (omega arith) (not-false _ (w .0 .left))))
     (c .if1 .came)
 
 same-length : tie.Need-same-length Inv-loop μ-loop
@@ -99,9 +85,10 @@ close-messages-spec =
     counts-requires
     loop-holds
     message-at-requires
-    cast-closed-message
-    closed-message-requires
-    put-message-requires
+    state-at-requires
+    cast-closed-state
+    closed-state-requires
+    put-state-requires
     add-m
     loop-less
     loop-again

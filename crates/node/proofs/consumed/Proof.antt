@@ -3,7 +3,7 @@ use mathlib.Core.Path.{sym, _∙_}
 use Prim.Native.Nat.{_<_}
 use native.Mathlib.Omega.{arith}
 use borrow.Author.Needs.{needs}
-use Rattle.store.specs.Node.{nodeOf}
+use Rattle.store.specs.Node.{layoutOf, nodeOf}
 use Rattle.node.specs.Calls.{consumedAnswer, consumedOf}
 use Rattle.node.proofs.Answers.{in-memory}
 use Rattle.node.proofs.Outcomes.{untouched, done}
@@ -25,13 +25,16 @@ in-cell : (c : tie.Else1) → c .before .before .before .before .args .frame < 3
 unfolding consumedAnswer
 in-cell c =
     let start = c .before .before .before .before in
-    in-memory (start .args .frame) (nodeOf (start .args .node .now) .frame-number) _ _ (sym (c .before .consumed-answer .ensures) ∙ c .if1 .left)
+    in-memory (start .args .frame) (layoutOf (start .args .node .now) .frame-number) _ _ (sym (c .before .consumed-answer .ensures) ∙ c .if1 .left)
 
-cast-t10 : tie.Need-cast-t10
-cast-t10 c = omega (arith, in-cell (c .before))
+cast-owner : tie.Need-cast-t9
+cast-owner c = omega (arith, in-cell c)
+
+own-places-requires : tie.Need-own-places-requires
+own-places-requires c κs = (in-cell (c .before), search needs)
 
 move-fields-requires : tie.Need-move-fields-requires
-move-fields-requires c κs = (in-cell (c .before), search needs)
+move-fields-requires c κs = (c .before .own-places .ensures .0, search needs)
 
 same-length-2 : tie.Need-same-length-2
 same-length-2 c = search needs
@@ -40,7 +43,7 @@ returns-2 : tie.Need-returns-2
 unfolding consumedOf
 returns-2 c =
     let move = c .before .before in
-    let answer = move .before .before in
+    let answer = move .before .before .before .before in
     let start = answer .before .before .before .before in
     done _ _ _ (nodeOf (start .args .node .now)) (sym (answer .before .consumed-answer .ensures) ∙ answer .if1 .left) (move .move-fields .ensures)
 
@@ -51,7 +54,8 @@ consumed-spec =
     consumed-answer-requires
     same-length
     returns
-    cast-t10
+    cast-owner
+    own-places-requires
     move-fields-requires
     same-length-2
     returns-2)

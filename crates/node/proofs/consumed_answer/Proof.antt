@@ -15,22 +15,22 @@ returns : tie.Need-returns
 unfolding consumedAnswer
 returns c = rw (le-ltb _ _ (rw (c .before .counts .ensures) at (c .if1 .taken)))
 
-head-at-requires : tie.Need-head-at-requires
-head-at-requires c κs =
+frame-at-requires : tie.Need-frame-at-requires
+frame-at-requires c κs =
     (omega (arith, ap (λ (k : Counts). k .frames) (c .before .counts .ensures)), c .before .before .before .pre)
 
 returns-2 : tie.Need-returns-2
 unfolding consumedAnswer
 returns-2 c =
     let number = c .before .before .before in
-    rw (lt-ltb _ _ (rw (number .before .counts .ensures) at (number .if1 .left)), rw (c .before .before .head-at .ensures) at (c .if2 .taken))
+    rw (lt-ltb _ _ (rw (number .before .counts .ensures) at (number .if1 .left)), rw (c .before .before .frame-at .ensures) at (c .if2 .taken))
 
 returns-3 : tie.Need-returns-3
 unfolding consumedAnswer
 returns-3 c =
     let number = c .before .before .before in
-    rw (lt-ltb _ _ (rw (number .before .counts .ensures) at (number .if1 .left)), rw (c .before .before .head-at .ensures) at (c .if2 .left))
+    rw (lt-ltb _ _ (rw (number .before .counts .ensures) at (number .if1 .left)), rw (c .before .before .frame-at .ensures) at (c .if2 .left))
 
 pub consumed-answer-spec : {M : Type 1} → statement M
 consumed-answer-spec =
-    tie.close (tie.spec counts-requires returns head-at-requires returns-2 returns-3)
+    tie.close (tie.spec counts-requires returns frame-at-requires returns-2 returns-3)

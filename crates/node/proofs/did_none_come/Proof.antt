@@ -1,98 +1,92 @@
--- `node::did_none_come` meets its contract. The invariant: whether no frame came is what the cells from d on say.
--- Assumes nothing.
+-- `node::did_none_come` meets its contract. The invariant: no frame of the message came just if none of the cells ahead did. Assumes nothing.
 use mathlib.Core.Path.{_≡_, ap, sym, _∙_}
-use mathlib.Core.Bool.{cond, not, _&&_}
+use mathlib.Core.Bool.{not}
 use mathlib.Core.Logic.{⊎-elim}
-use Prim.Native.Nat.{_+_, _-_, _≤_}
+use Prim.Native.Nat.{_-_}
 use native.Mathlib.Omega.{arith}
 use borrow.Author.Needs.{needs}
-use Rattle.store.specs.Node.{nodeOf}
-use Rattle.store.proofs.Laws.{fields-length}
-use Rattle.node.specs.declared.Cells.{Cells}
+use Rattle.whole.specs.Whole.{allOf}
+use Rattle.store.specs.Node.{layoutOf, stateOf, nodeOf}
+use Rattle.node.specs.declared.Owner.{Owner}
+use Rattle.node.specs.declared.Places.{Places}
+use Rattle.node.specs.Own.{endPlace}
 use Rattle.node.specs.Closing.{came, noneCame}
-use Rattle.node.proofs.Owners.{frame-known}
-use Rattle.node.proofs.Rounds.{noneFrom, none-begin, none-turn, none-end}
+use Rattle.node.proofs.Turns.{ahead, all-turn, all-skip, all-stop, all-end}
+use Rattle.node.proofs.Rounds.{absent, none-begin}
 use Rattle.node.proofs.did_none_come.Statement.{statement}
 use Rattle.node.proofs.did_none_come.Tie as tie
 
 abbrev Inv-loop : tie.InvT-loop
-Inv-loop node message c owner from end d₀ d = (from ≤ d) × (noneCame (nodeOf node) message ≡ noneFrom (nodeOf node) message d)
+Inv-loop node message c owner from end i₀ i =
+    (end ≡ endPlace (layoutOf node) (Owner.Message message))
+    × (noneCame (nodeOf node) message ≡ allOf (absent (nodeOf node) message) (ahead (layoutOf node) (Owner.Message message) i))
 
 abbrev μ-loop : tie.MeasureT-loop
-μ-loop node message c owner from end d₀ d = end - d
-
--- what the cell of this turn says, and those after it
-turn : (c : tie.After-does-belong Inv-loop μ-loop)
-    → let loop = c .before .before .before in
-    let a = loop .before .before .before .before .args in
-    let n = nodeOf (a .node .now) in
-    let rest = noneFrom n (a .message) (loop .loop .d + 1) in
-    noneFrom n (a .message) (loop .loop .d) ≡ cond (c .does-belong .result) (not (came n (c .before .field-at .result)) && rest) rest
-turn c =
-    let loop = c .before .before .before in
-    let cells = loop .before in
-    let counted = cells .before in
-    let a = counted .before .before .args in
-    let from = ap (λ (r : Cells). r .from) (cells .own-cells .ensures .0) in
-    let end = ap (λ (r : Cells). r .end) (cells .own-cells .ensures .0) in
-    rw (c .does-belong .ensures, counted .counts .ensures, c .before .field-at .ensures)
-    (none-turn (nodeOf (a .node .now)) (a .message) (loop .loop .d) (omega arith) (omega arith) (omega (arith, fields-length (a .node .now))))
+μ-loop node message c owner from end i₀ i = end - i
 
 counts-requires : tie.Need-counts-requires Inv-loop μ-loop
 counts-requires c κs = search needs
 
-own-cells-requires : tie.Need-own-cells-requires Inv-loop μ-loop
-own-cells-requires c κs = search needs
+own-places-requires : tie.Need-own-places-requires Inv-loop μ-loop
+own-places-requires c κs = search needs
 
 loop-holds : tie.Need-loop-holds Inv-loop μ-loop
 loop-holds c =
-    let a = c .before .before .before .args in
-    let n = nodeOf (a .node .now) in
-    (search needs, none-begin n (a .message) ∙ ap (λ (r : Cells). noneFrom n (a .message) (r .from)) (sym (c .own-cells .ensures .0)))
+    let args = c .before .before .before .args in
+    let places = c .own-places .ensures .0 in (
+      ap (λ (p : Places). p .end) places,
+      rw (ap (λ (p : Places). p .from) places) (none-begin (nodeOf (args .node .now)) (args .message)),
+    )
 
-field-at-requires : tie.Need-field-at-requires Inv-loop μ-loop
-field-at-requires c κs = search needs
+own-cell-requires : tie.Need-own-cell-requires Inv-loop μ-loop
+own-cell-requires c κs = search needs
 
-does-belong-requires : tie.Need-does-belong-requires Inv-loop μ-loop
-does-belong-requires c κs = search needs
+laid-at-requires : tie.Need-laid-at-requires Inv-loop μ-loop
+laid-at-requires c κs = search needs
 
 did-come-requires : tie.Need-did-come-requires Inv-loop μ-loop
-did-come-requires c κs =
-    let asked = c .before in
-    let counted = asked .before .before .before .before .before in
-    let start = counted .before .before in (
-      frame-known (nodeOf (start .args .node .now)) _ _ (counted .counts .ensures) (sym (asked .does-belong .ensures) ∙ c .if1 .taken),
-      start .pre .1,
-    )
+did-come-requires c κs = search needs
 
 returns-came : tie.Need-returns Inv-loop μ-loop
 returns-came c =
-    let asked = c .before .before .before in
-    let loop = asked .before .before .before in
-    sym (loop .loop .inv .1 ∙ rw (c .before .before .if1 .taken, ← c .before .did-come .ensures, c .if2 .taken) at (turn asked))
+    let told = c .before .before .before .before in
+    let loop = told .before .before in
+    let args = loop .before .before .before .before .args in
+    let b = args .node .now in
+    let test = c .before .did-come .ensures ∙ ap (came (stateOf b)) (c .before .before .laid-at .ensures) in
+    all-stop (layoutOf b) (Owner.Message (args .message)) (loop .loop .i) (omega arith) (told .own-cell .ensures)
+    (absent (nodeOf b) (args .message)) (c .before .before .before .if1 .taken) (ap not (sym test ∙ c .if2 .taken)) (loop .loop .inv .1)
 
-add-d : tie.Need-add-d Inv-loop μ-loop
-add-d c = search needs
+add-i : tie.Need-add-i Inv-loop μ-loop
+add-i c = search needs
 
 loop-less : tie.Need-loop-less Inv-loop μ-loop
 loop-less c = search needs
 
 loop-again : tie.Need-loop-again Inv-loop μ-loop
 loop-again c =
-    let loop = c .before .before .before .before in (
-      search needs,
-      ⊎-elim (λ w. loop .loop .inv .1 ∙ rw (w .0 .taken, ← w .1 .ensures, w .2 .left) at (turn (c .before)))
-          (λ w. loop .loop .inv .1 ∙ rw (w .left) at (turn (c .before))) (c .if1 .came),
+    let told = c .before in
+    let loop = told .before .before in
+    let args = loop .before .before .before .before .args in
+    let b = args .node .now in
+    let o = Owner.Message (args .message) in
+    let none = absent (nodeOf b) (args .message) in (
+      loop .loop .inv .0,
+      ⊎-elim
+          (λ w.
+          let test = w .2 .ensures ∙ ap (came (stateOf b)) (w .1 .ensures) in
+          all-turn (layoutOf b) o (loop .loop .i) (omega arith) (told .own-cell .ensures) none (w .0 .taken) (ap not (sym test ∙ w .3 .left))
+          (loop .loop .inv .1))
+          (λ w. all-skip (layoutOf b) o (loop .loop .i) (omega arith) (told .own-cell .ensures) none (λ h. omega arith) (loop .loop .inv .1))
+          (c .if1 .came),
     )
 
 returns-none : tie.Need-returns-2 Inv-loop μ-loop
 returns-none c =
     let loop = c .before in
-    let cells = loop .before in
-    let a = cells .before .before .before .args in
-    let n = nodeOf (a .node .now) in
-    let end = ap (λ (r : Cells). r .end) (cells .own-cells .ensures .0) in
-    sym (loop .loop .inv .1 ∙ none-end n (a .message) (loop .loop .d) (omega arith))
+    let args = loop .before .before .before .before .args in
+    let b = args .node .now in
+    all-end (layoutOf b) (Owner.Message (args .message)) (absent (nodeOf b) (args .message)) (loop .loop .i) (omega arith) (loop .loop .inv .1)
 
 pub did-none-come-spec : {M : Type 1} → statement M
 did-none-come-spec =
@@ -101,13 +95,13 @@ did-none-come-spec =
     Inv-loop
     μ-loop
     counts-requires
-    own-cells-requires
+    own-places-requires
     loop-holds
-    field-at-requires
-    does-belong-requires
+    own-cell-requires
+    laid-at-requires
     did-come-requires
     returns-came
-    add-d
+    add-i
     loop-less
     loop-again
     returns-none)

@@ -3,6 +3,7 @@ use mathlib.Core.Path.{refl, sym, _∙_}
 use borrow.Author.Tests.{not-true, not-false}
 use borrow.Author.Needs.{needs}
 use Rattle.node.specs.Closing.{counts}
+use Rattle.node.proofs.Rounds.{came-known}
 use Rattle.node.proofs.does_count.Statement.{statement}
 use Rattle.node.proofs.does_count.Tie as tie
 
@@ -14,7 +15,8 @@ unfolding counts
 returns-not-come c = rw (sym (c .before .did-come .ensures) ∙ not-true _ (c .if1 .taken)) refl
 
 is-status-set-requires : tie.Need-is-status-set-requires
-is-status-set-requires c κs = search needs
+is-status-set-requires c κs =
+    (came-known _ _ (sym (c .before .did-come .ensures) ∙ not-false _ (c .if1 .left)), search needs)
 
 returns-come : tie.Need-returns-2
 unfolding counts

@@ -11,26 +11,27 @@ use Rattle.node.proofs.flag_answer.Tie as tie
 counts-requires : tie.Need-counts-requires
 counts-requires c κs = search needs
 
-returns : tie.Need-returns
+returns-unknown : tie.Need-returns
 unfolding flagAnswer
-returns c = rw (le-ltb _ _ (rw (c .before .counts .ensures) at (c .if1 .taken)))
+returns-unknown c = rw (le-ltb _ _ (rw (c .before .counts .ensures) at (c .if1 .taken)))
 
 message-at-requires : tie.Need-message-at-requires
-message-at-requires c κs =
-    (omega (arith, ap (λ (k : Counts). k .messages) (c .before .counts .ensures)), c .before .before .before .pre)
+message-at-requires c κs = (omega (arith, ap (λ (k : Counts). k .messages) (c .before .counts .ensures)), c .before .before .before .pre)
 
-returns-2 : tie.Need-returns-2
+returns-received : tie.Need-returns-2
 unfolding flagAnswer
-returns-2 c =
-    let number = c .before .before .before in
-    rw (lt-ltb _ _ (rw (number .before .counts .ensures) at (number .if1 .left)), rw (c .before .before .message-at .ensures) at (c .if2 .taken))
+returns-received c =
+    let read = c .before .before in
+    let number = read .before in
+    rw (lt-ltb _ _ (rw (number .before .counts .ensures) at (number .if1 .left)), rw (read .message-at .ensures) at (c .if2 .taken))
 
-returns-3 : tie.Need-returns-3
+returns-sent : tie.Need-returns-3
 unfolding flagAnswer
-returns-3 c =
-    let number = c .before .before .before in
-    rw (lt-ltb _ _ (rw (number .before .counts .ensures) at (number .if1 .left)), rw (c .before .before .message-at .ensures) at (c .if2 .left))
+returns-sent c =
+    let read = c .before .before in
+    let number = read .before in
+    rw (lt-ltb _ _ (rw (number .before .counts .ensures) at (number .if1 .left)), rw (read .message-at .ensures) at (c .if2 .left))
 
 pub flag-answer-spec : {M : Type 1} → statement M
 flag-answer-spec =
-    tie.close (tie.spec counts-requires returns message-at-requires returns-2 returns-3)
+    tie.close (tie.spec counts-requires returns-unknown message-at-requires returns-received returns-sent)

@@ -6,14 +6,14 @@ use native.Mathlib.Omega.{arith}
 use lib.ListN.{length}
 use borrow.Author.Needs.{needs}
 use Rattle.layout.specs.declared.Counts.{Counts}
-use Rattle.store.specs.Node.{nodeSize, nodeOf, frameCount}
-use Rattle.store.proofs.Laws.{frames-length}
+use Rattle.store.specs.Node.{nodeSize, layoutOf, nodeOf, frameCount}
+use Rattle.store.proofs.Laws.{deliveries-length}
 use Rattle.node.proofs.Rounds.{forgottenTo, forget-turn, forget-end}
 use Rattle.node.proofs.forget_deliveries.Statement.{statement}
 use Rattle.node.proofs.forget_deliveries.Tie as tie
 
 abbrev Inv-loop : tie.InvT-loop
-Inv-loop node₀ frames f₀ node f = (frames ≡ frameCount (nodeOf node₀)) × (length node ≡ nodeSize) × (nodeOf node ≡ forgottenTo (nodeOf node₀) f)
+Inv-loop node₀ frames f₀ node f = (frames ≡ frameCount (layoutOf node₀)) × (length node ≡ nodeSize) × (nodeOf node ≡ forgottenTo (nodeOf node₀) f)
 
 abbrev μ-loop : tie.MeasureT-loop
 μ-loop node₀ frames f₀ node f = frames - f
@@ -22,9 +22,7 @@ counts-requires : tie.Need-counts-requires Inv-loop μ-loop
 counts-requires c κs = search needs
 
 loop-holds : tie.Need-loop-holds Inv-loop μ-loop
-loop-holds c =
-    let start = c .before .before .before in
-    (ap (λ (r : Counts). r .frames) (c .counts .ensures), start .pre, refl)
+loop-holds c = (ap (λ (r : Counts). r .frames) (c .counts .ensures), search needs, refl)
 
 forget-delivery-requires : tie.Need-forget-delivery-requires Inv-loop μ-loop
 forget-delivery-requires c κs = search needs
@@ -42,7 +40,7 @@ loop-again c =
     let b = loop .before .before .before .before .args .node .now in (
       loop .loop .inv .0,
       search needs,
-      forget-turn (nodeOf b) (loop .loop .f) (omega arith) (omega (arith, frames-length b)) (loop .loop .inv .2) (put .forget-delivery .ensures),
+      forget-turn (nodeOf b) (loop .loop .f) (omega arith) (omega (arith, deliveries-length b)) (loop .loop .inv .2) (put .forget-delivery .ensures),
     )
 
 same-length : tie.Need-same-length Inv-loop μ-loop

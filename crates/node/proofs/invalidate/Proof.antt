@@ -1,12 +1,10 @@
--- `node::invalidate` meets its contract: refused, it leaves the memory; done, the message is written back without its validity.
+-- `node::invalidate` meets its contract: refused, it leaves the memory; done, the message's state is written back without its validity.
 -- Assumes nothing.
 use mathlib.Core.Path.{ap, sym, _∙_}
 use Prim.Native.Nat.{_<_}
 use borrow.Author.Needs.{needs}
-use Rattle.store.specs.declared.Message.{Message}
-use Rattle.store.specs.Node.{Stored, nodeOf, withMessage}
-use Rattle.store.proofs.Laws.{message-stored}
-use Rattle.message.specs.Messages.{invalidated}
+use Rattle.store.specs.declared.MessageState.{MessageState}
+use Rattle.store.specs.Node.{layoutOf, nodeOf, withState, nodeWith}
 use Rattle.node.specs.Calls.{invalidateAnswer, invalidateOf}
 use Rattle.node.proofs.Answers.{in-memory}
 use Rattle.node.proofs.Outcomes.{untouched, done}
@@ -28,23 +26,17 @@ in-cell : (c : tie.Else1) → c .before .before .before .before .args .message <
 unfolding invalidateAnswer
 in-cell c =
     let start = c .before .before .before .before in
-    in-memory (start .args .message) (nodeOf (start .args .node .now) .message-number) _ _
+    in-memory (start .args .message) (layoutOf (start .args .node .now) .message-number) _ _
     (sym (c .before .invalidate-answer .ensures) ∙ c .if1 .left)
 
-message-at-requires : tie.Need-message-at-requires
-message-at-requires c κs = (in-cell (c .before), search needs)
+state-at-requires : tie.Need-state-at-requires
+state-at-requires c κs = (in-cell (c .before), search needs)
 
-invalidated-message-requires : tie.Need-invalidated-message-requires
-invalidated-message-requires c κs = search needs
+invalidated-state-requires : tie.Need-invalidated-state-requires
+invalidated-state-requires c κs = search needs
 
-put-message-requires : tie.Need-put-message-requires
-put-message-requires c κs =
-    let read = c .before .before in
-    let known = read .before .before .before .before .before in
-    let start = known .before in
-    let message = message-stored (start .args .node .now) (λ i. known .slice-known .given i .fits) (start .args .message) in
-    let old : Stored (read .message-at .result) = rw (read .message-at .ensures) message in
-    (in-cell (read .before .before), rw (c .invalidated-message .ensures) (record { held = old .held; old = old .old }), search needs)
+put-state-requires : tie.Need-put-state-requires
+put-state-requires c κs = (in-cell (c .before .before .before .before), search needs)
 
 same-length-2 : tie.Need-same-length-2
 same-length-2 c = search needs
@@ -58,9 +50,9 @@ returns-2 c =
     let answer = read .before .before in
     let start = answer .before .before .before .before in
     let n = nodeOf (start .args .node .now) in
+    let new = rw (read .state-at .ensures) at (made .invalidated-state .ensures) in
     done _ _ _ n (sym (answer .before .invalidate-answer .ensures) ∙ answer .if1 .left)
-    (put .put-message .ensures
-    ∙ ap (withMessage n (start .args .message)) (made .invalidated-message .ensures ∙ ap (λ (g : Message). invalidated g) (read .message-at .ensures)))
+    (put .put-state .ensures ∙ ap (λ (s : MessageState). nodeWith n (withState (n .state) (start .args .message) s)) new)
 
 pub invalidate-spec : {M : Type 1} → statement M
 invalidate-spec =
@@ -69,8 +61,8 @@ invalidate-spec =
     invalidate-answer-requires
     same-length
     returns
-    message-at-requires
-    invalidated-message-requires
-    put-message-requires
+    state-at-requires
+    invalidated-state-requires
+    put-state-requires
     same-length-2
     returns-2)

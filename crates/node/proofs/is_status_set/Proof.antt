@@ -19,8 +19,8 @@ returns-no-bit c =
 cast-f : tie.Need-cast-f
 cast-f c = search needs
 
-head-at-requires : tie.Need-head-at-requires
-head-at-requires c κs = search needs
+frame-at-requires : tie.Need-frame-at-requires
+frame-at-requires c κs = search needs
 
 data-at-requires : tie.Need-data-at-requires
 data-at-requires c κs = search needs
@@ -34,8 +34,8 @@ returns-bit c =
     let bits = c .before .before in
     let test = bits .before .before .before in
     let one : eqb (test .before .before .before .args .x .status) 1 ≡ true = not-false _ (test .if1 .left) in
-    rw (one, ← bits .data-at .ensures, ← bits .before .head-at .ensures, ← c .unpack .ensures) refl
+    rw (one, ← bits .data-at .ensures, ← bits .before .frame-at .ensures, ← c .unpack .ensures) refl
 
 pub is-status-set-spec : {M : Type 1} → statement M
 is-status-set-spec =
-    tie.close (tie.spec returns-no-bit cast-f head-at-requires data-at-requires unpack-requires returns-bit)
+    tie.close (tie.spec returns-no-bit cast-f frame-at-requires data-at-requires unpack-requires returns-bit)

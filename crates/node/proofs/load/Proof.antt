@@ -10,7 +10,6 @@ use Rattle.layout.proofs.Accepted.{accepted}
 use Rattle.layout.proofs.Node.{few-frames, few-messages}
 use Rattle.layout.proofs.Refused.{refused-record}
 use Rattle.store.specs.Node.{Node}
-use Rattle.node.specs.Calls.{outcome}
 use Rattle.node.specs.Load.{loadOf}
 use Rattle.node.proofs.load.Statement.{statement}
 use Rattle.node.proofs.load.Tie as tie
@@ -78,7 +77,7 @@ returns-accepted : tie.Need-returns
 unfolding loadOf
 returns-accepted c =
     rw (was-accepted (c .before .before .before .before .before))
-    (ap (λ (n : Node). outcome 0 n n) (c .before .before .start .ensures))
+    (ap (λ (n : Node). record { answer = 0; node = n }) (c .before .before .start .ensures))
 
 returns-refused : tie.Need-returns-2
 unfolding loadOf

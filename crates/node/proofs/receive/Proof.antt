@@ -1,6 +1,7 @@
--- `node::receive` meets its contract, by whether the answer is 0: if so the message is one of the memory, and its held value is stored as its bits.
+-- `node::receive` meets its contract, by whether the answer is 0: if so the message has a cell in the memory, and its held value comes back.
 -- Assumes nothing.
 use mathlib.Core.Path.{refl, sym, _∙_}
+use Prim.Native.Nat.{_<_}
 use native.Mathlib.Omega.{arith}
 use mir.Syntax.{w64}
 use mir.ValLaws.{toZ-ofZ}
@@ -18,24 +19,37 @@ receive-answer-requires c κs = search needs
 returns-other : tie.Need-returns
 unfolding receivedPlace
 returns-other c =
-    let asked = c .before in
-    (asked .receive-answer .ensures, rw (← asked .receive-answer .ensures, ne-eqb _ _ (c .if1 .taken)) refl)
+    let answer = c .before .receive-answer .ensures in
+    (answer, rw (← answer, ne-eqb _ _ (c .if1 .taken)) refl)
+
+-- answer 0: the message has a cell in the memory
+in-cell : (c : tie.Else1) → c .before .before .before .args .message < 32
+in-cell c =
+    let a = c .before .before .before .args in
+    omega (arith, receive-tests (nodeOf (a .node .now)) (a .message) (sym (c .before .receive-answer .ensures) ∙ c .if1 .left))
 
 message-at-requires : tie.Need-message-at-requires
-message-at-requires c κs =
-    let asked = c .before in
-    let start = asked .before .before in
-    let number = receive-tests (nodeOf (start .args .node .now)) (start .args .message) (sym (asked .receive-answer .ensures) ∙ c .if1 .left) in
-    (omega arith, start .pre)
+message-at-requires c κs = (in-cell c, search needs)
+
+state-at-requires : tie.Need-state-at-requires
+state-at-requires c κs = (in-cell (c .before), search needs)
+
+value-of-requires : tie.Need-value-of-requires
+value-of-requires c κs = search needs
 
 returns-value : tie.Need-returns-2
 unfolding receivedPlace
 returns-value c =
-    let read = c .before in
-    let asked = read .before .before in
-    let held = toZ-ofZ w64 (read .message-at .result .held) (record { sfits = omega (arith, c .struct-told .given) }) in
-    let done = sym (asked .receive-answer .ensures) ∙ read .before .if1 .left in
-    (sym done, rw (done, held, read .message-at .ensures) refl)
+    let state = c .before .before in
+    let message = state .before in
+    let asked = message .before .before in
+    let answer = sym (asked .receive-answer .ensures) ∙ message .before .if1 .left in (
+      sym answer,
+      rw (answer, ← message .message-at .ensures, ← state .state-at .ensures)
+          (toZ-ofZ w64 (c .value-of .result) (record { sfits = c .value-of .ok }) ∙ c .value-of .ensures),
+    )
 
 pub receive-spec : {M : Type 1} → statement M
-receive-spec = tie.close (tie.spec receive-answer-requires returns-other message-at-requires returns-value)
+receive-spec =
+    tie.close
+    (tie.spec receive-answer-requires returns-other message-at-requires state-at-requires value-of-requires returns-value)

@@ -1,23 +1,16 @@
--- `node::send` meets its contract: refused, it leaves the memory; done, the message's fields wait and the message is as its filter left it, which the
--- memory can hold since the value is in the message's range. Assumes nothing.
+-- `node::send` meets its contract: refused, it leaves the memory; done, the message's fields wait and its state is as its filter left it.
+-- Assumes nothing.
 use mathlib.Core.Path.{_≡_, ap₂, sym, _∙_}
-use mathlib.Core.Bool.{true}
 use Prim.Native.Nat.{_<_}
 use native.Mathlib.Omega.{arith}
-use lib.IntN.{ℤ}
 use mir.Syntax.{w64}
 use mir.Val.{toZ, ofZ}
 use mir.ValLaws.{toZ-ofZ}
 use borrow.Author.Needs.{needs}
-use Rattle.packing.proofs.Values.{range-wider}
-use Rattle.store.specs.declared.Message.{Message}
-use Rattle.store.specs.Node.{Node, Stored, isSigned, nodeOf, messageAt, withMessage}
-use Rattle.store.proofs.Laws.{message-stored}
-use Rattle.message.specs.Messages.{canHold, passesNow, offered}
-use Rattle.message.proofs.Held.{held-in-range}
+use Rattle.store.specs.declared.MessageState.{MessageState}
+use Rattle.store.specs.Node.{Node, layoutOf, nodeOf, withState, nodeWith}
 use Rattle.node.specs.Calls.{sendAnswer, sendOf}
-use Rattle.node.proofs.Lists.{by-test}
-use Rattle.node.proofs.Answers.{in-memory, send-tests}
+use Rattle.node.proofs.Answers.{in-memory}
 use Rattle.node.proofs.Outcomes.{untouched, done}
 use Rattle.node.proofs.send.Statement.{statement}
 use Rattle.node.proofs.send.Tie as tie
@@ -39,7 +32,7 @@ returns c =
 
 -- answer 0
 accepted : (c : tie.Else1)
-    → sendAnswer (nodeOf (c .before .before .before .before .args .node .now)) (c .before .before .before .before .args .message)
+    → sendAnswer (layoutOf (c .before .before .before .before .args .node .now)) (c .before .before .before .before .args .message)
     (c .before .before .before .before .args .value)
     ≡ 0
 accepted c = sym (rw (back (c .before .before .before .before)) at (c .before .send-answer .ensures)) ∙ c .if1 .left
@@ -49,47 +42,29 @@ in-cell : (c : tie.Else1) → c .before .before .before .before .args .message <
 unfolding sendAnswer
 in-cell c =
     let start = c .before .before .before .before in
-    in-memory (start .args .message) (nodeOf (start .args .node .now) .message-number) _ _ (accepted c)
-
--- a message that the memory holds, with a value in its range
-offered-stored : (g : Message) (v : ℤ) → Stored g → canHold g v ≡ true → Stored (offered g v)
-unfolding offered
-offered-stored g v old within =
-    let new = range-wider (isSigned g) (g .width) v (held-in-range g v within) in
-    by-test Stored (passesNow g v) (λ t. record { held = new; old = new }) (λ t. record { held = old .held; old = new })
+    in-memory (start .args .message) (layoutOf (start .args .node .now) .message-number) _ _ (accepted c)
 
 message-at-requires : tie.Need-message-at-requires
 message-at-requires c κs = (in-cell (c .before), search needs)
 
-cast-t15 : tie.Need-cast-t15
-cast-t15 c = omega (arith, in-cell (c .before .before .before))
+state-at-requires : tie.Need-state-at-requires
+state-at-requires c κs = (in-cell (c .before .before .before), search needs)
+
+cast-owner : tie.Need-cast-t17
+cast-owner c = omega (arith, in-cell (c .before .before .before .before))
+
+own-places-requires : tie.Need-own-places-requires
+own-places-requires c κs = (in-cell (c .before .before .before .before .before), search needs)
 
 move-fields-requires : tie.Need-move-fields-requires
-move-fields-requires c κs = (in-cell (c .before .before .before), search needs)
+move-fields-requires c κs = (c .before .own-places .ensures .0, search needs)
 
-offered-message-requires : tie.Need-offered-message-requires
-offered-message-requires c κs = search needs
+offered-state-requires : tie.Need-offered-state-requires
+offered-state-requires c κs = search needs
 
--- what is put in the message's cell
-new-message : (c : tie.After-offered-message)
-    → c .offered-message .result
-    ≡ offered
-    (messageAt (nodeOf (c .before .before .before .before .before .before .before .before .before .before .before .before .args .node .now))
-    (c .before .before .before .before .before .before .before .before .before .before .before .before .args .message))
-    (c .before .before .before .before .before .before .before .before .before .before .before .before .args .value)
-new-message c =
-    let read = c .before .before .before .before .before .before in
-    rw (back (read .before .before .before .before .before .before), read .message-at .ensures) at (c .offered-message .ensures)
-
-put-message-requires : tie.Need-put-message-requires
-put-message-requires c κs =
-    let answer = c .before .before .before .before .before .before .before .before in
-    let known = answer .before .before .before in
-    let args = known .before .args in
-    let n = nodeOf (args .node .now) in
-    let old = message-stored (args .node .now) (λ i. known .slice-known .given i .fits) (args .message) in
-    let within = send-tests n (args .message) (args .value) (accepted answer) .1 in
-    (in-cell answer, rw (new-message c) (offered-stored (messageAt n (args .message)) (args .value) old within), search needs)
+put-state-requires : tie.Need-put-state-requires
+put-state-requires c κs =
+    (in-cell (c .before .before .before .before .before .before .before .before .before .before .before .before), search needs)
 
 same-length-2 : tie.Need-same-length-2
 same-length-2 c = search needs
@@ -99,11 +74,14 @@ unfolding sendOf
 returns-2 c =
     let put = c .before .before in
     let move = put .before .before .before .before .before in
-    let answer = move .before .before .before .before in
-    let args = answer .before .before .before .before .args in
-    done _ _ _ (nodeOf (args .node .now)) (accepted answer)
-    (put .put-message .ensures
-    ∙ ap₂ (λ (k : Node) (g : Message). withMessage k (args .message) g) (move .move-fields .ensures) (new-message (put .before)))
+    let state = move .before .before .before .before in
+    let message = state .before .before in
+    let answer = message .before .before in
+    let start = answer .before .before .before .before in
+    let new = rw (back start, message .message-at .ensures, state .state-at .ensures) at (put .before .offered-state .ensures) in
+    done _ _ _ (nodeOf (start .args .node .now)) (accepted answer)
+    (put .put-state .ensures
+    ∙ ap₂ (λ (k : Node) (s : MessageState). nodeWith k (withState (k .state) (start .args .message) s)) (move .move-fields .ensures) new)
 
 pub send-spec : {M : Type 1} → statement M
 send-spec =
@@ -113,9 +91,11 @@ send-spec =
     same-length
     returns
     message-at-requires
-    cast-t15
+    state-at-requires
+    cast-owner
+    own-places-requires
     move-fields-requires
-    offered-message-requires
-    put-message-requires
+    offered-state-requires
+    put-state-requires
     same-length-2
     returns-2)

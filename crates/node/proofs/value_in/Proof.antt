@@ -11,8 +11,8 @@ use mir.Syntax.{w64}
 use mir.ValLaws.{toZ-ofZ}
 use borrow.Author.Needs.{needs}
 use Rattle.packing.specs.Places.{placesIn, unpacked}
-use Rattle.store.specs.declared.Head.{Head}
-use Rattle.store.specs.Node.{Frame, nodeOf, frameAt, dataOf}
+use Rattle.store.specs.declared.Frame.{Frame}
+use Rattle.store.specs.Node.{layoutOf, nodeOf, frameAt, dataAt}
 use Rattle.store.proofs.Places.{room-length, data-in-room}
 use Rattle.node.specs.Closing.{valueIn}
 use Rattle.node.proofs.value_in.Statement.{statement}
@@ -21,8 +21,8 @@ use Rattle.node.proofs.value_in.Tie as tie
 cast-f : tie.Need-cast-f
 cast-f c = search needs
 
-head-at-requires : tie.Need-head-at-requires
-head-at-requires c κs = search needs
+frame-at-requires : tie.Need-frame-at-requires
+frame-at-requires c κs = search needs
 
 data-length-requires : tie.Need-data-length-requires
 data-length-requires c κs = search needs
@@ -41,10 +41,10 @@ value-of-requires : tie.Need-value-of-requires
 value-of-requires c κs = search needs
 
 -- the data are the first n bytes of the room
-in-room : (h : Frame) (r : List ℕ) (n : ℕ) (big : Bool) (start w : ℕ) → length r ≡ 40 → n ≤ 32 → take n r ≡ dataOf h
-    → unpacked (placesIn (length (dataOf h)) big start w) (dataOf h) ≡ unpacked (placesIn n big start w) (take n r)
-in-room h r n big start w l few front =
-    let size : length (dataOf h) ≡ n = ap length (sym front) ∙ length-take-le n r (omega arith) in
+in-room : (d r : List ℕ) (n : ℕ) (big : Bool) (start w : ℕ) → length r ≡ 40 → n ≤ 32 → take n r ≡ d
+    → unpacked (placesIn (length d) big start w) d ≡ unpacked (placesIn n big start w) (take n r)
+in-room d r n big start w l few front =
+    let size : length d ≡ n = ap length (sym front) ∙ length-take-le n r (omega arith) in
     rw (size, ← front) refl
 
 returns : tie.Need-returns
@@ -52,21 +52,21 @@ unfolding valueIn
 returns c =
     let pattern = c .before .before in
     let room = pattern .before .before in
-    let head = room .before .before in
-    let s = head .before .before .before in
-    let node = s .args .node .now in
+    let frame = room .before .before in
+    let s = frame .before .before .before in
+    let b = s .args .node .now in
     let f = s .args .x .frame in
     let n = room .before .data-length .result in
     let lent = room .room-at .ensures in
-    let cut : n ≡ min (frameAt (nodeOf node) f .head .length) 32 =
-    room .before .data-length .ensures ∙ ap (λ (h : Head). min (h .length) 32) (head .head-at .ensures)
+    let cut : n ≡ min (frameAt (layoutOf b) f .length) 32 =
+    room .before .data-length .ensures ∙ ap (λ (h : Frame). min (h .length) 32) (frame .frame-at .ensures)
     in
     let few : n ≤ 32 = omega arith in
-    let size = ap length lent ∙ room-length node (s .pre .1) f (s .pre .0) in
-    let front = ap₂ take cut lent ∙ data-in-room node (s .pre .1) f (s .pre .0) in
+    let size = ap length lent ∙ room-length b (s .pre .1) f (s .pre .0) in
+    let front = ap₂ take cut lent ∙ data-in-room b (s .pre .1) f (s .pre .0) in
     rw (
-      in-room (frameAt (nodeOf node) f) _ n _ (s .args .x .start) (s .args .g .width) size few front,
-      ← head .head-at .ensures,
+      in-room (dataAt (nodeOf b) f) _ n _ (s .args .x .start) (s .args .g .width) size few front,
+      ← frame .frame-at .ensures,
       ← pattern .unpack-in .ensures,
     )
     (toZ-ofZ w64 (c .value-of .result) (record { sfits = c .value-of .ok }) ∙ c .value-of .ensures)
@@ -74,4 +74,4 @@ returns c =
 pub value-in-spec : {M : Type 1} → statement M
 value-in-spec =
     tie.close
-    (tie.spec cast-f head-at-requires data-length-requires room-at-requires unpack-in-requires value-of-requires returns)
+    (tie.spec cast-f frame-at-requires data-length-requires room-at-requires unpack-in-requires value-of-requires returns)

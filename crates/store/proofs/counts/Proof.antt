@@ -1,7 +1,7 @@
--- `store::counts` meets its contract: the first three bytes of the memory are the node's numbers.
+-- `store::counts` meets its contract: the first three bytes of the memory are the numbers of the layout.
 -- Assumes nothing.
 use borrow.Author.Needs.{needs}
-use Rattle.store.specs.Node.{nodeOf}
+use Rattle.store.specs.Node.{layoutOf}
 use Rattle.store.proofs.counts.Statement.{statement}
 use Rattle.store.proofs.counts.Tie as tie
 
@@ -24,7 +24,7 @@ least-requires-3 : tie.Need-least-requires-3
 least-requires-3 c κs = search needs
 
 returns : tie.Need-returns
-unfolding nodeOf
+unfolding layoutOf
 returns c = cc
 
 pub counts-spec : {M : Type 1} → statement M

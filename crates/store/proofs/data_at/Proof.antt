@@ -4,20 +4,26 @@ use mathlib.Core.Path.{ap, sym, _∙_}
 use Prim.Native.Nat.{ℕ, _+_, _*_}
 use borrow.Author.Needs.{needs}
 use Rattle.store.specs.Memory.{part}
-use Rattle.store.specs.Node.{framesAt}
+use Rattle.store.specs.Node.{deliveriesAt}
 use Rattle.store.proofs.Parts.{part-lent}
 use Rattle.store.proofs.Places.{data-read}
 use Rattle.store.proofs.data_at.Statement.{statement}
 use Rattle.store.proofs.data_at.Tie as tie
 
-mul-at : tie.Need-mul-at
-mul-at c = search needs
-
-add-at : tie.Need-add-at
-add-at c = search needs
+mul-from : tie.Need-mul-from
+mul-from c = search needs
 
 add-from : tie.Need-add-from
 add-from c = search needs
+
+add-from-2 : tie.Need-add-from-2
+add-from-2 c = search needs
+
+mul-least : tie.Need-mul-least
+mul-least c = search needs
+
+add-least : tie.Need-add-least
+add-least c = search needs
 
 shared-slice-read-least : tie.Need-shared-slice-read-least
 shared-slice-read-least c = search needs
@@ -41,7 +47,7 @@ returns : tie.Need-returns
 returns c =
     let s = c .before .before .before .before in
     let node = s .args .node .now in
-    let from : ℕ = framesAt + s .args .f * 37 + 5 in
+    let from : ℕ = deliveriesAt + s .args .f * 33 + 1 in
     part-lent node from (c .before .least .result)
     ∙ ap (part node from) (c .before .least .ensures)
     ∙ sym (data-read node (s .pre .1) (s .args .f) (s .pre .0))
@@ -50,9 +56,11 @@ pub data-at-spec : {M : Type 1} → statement M
 data-at-spec =
     tie.close
     (tie.spec
-    mul-at
-    add-at
+    mul-from
     add-from
+    add-from-2
+    mul-least
+    add-least
     shared-slice-read-least
     least-requires
     add-end

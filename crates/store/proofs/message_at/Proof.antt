@@ -35,7 +35,7 @@ returns c =
     let s = c .before .before .before in
     let node = s .args .node .now in
     c .read-message .ensures
-    ∙ ap messageOf (part-lent node (messagesAt + s .args .m * 26) 26)
+    ∙ ap messageOf (part-lent node (messagesAt + s .args .m * 16) 16)
     ∙ sym (message-read node (s .args .m) (s .pre .0))
 
 pub message-at-spec : {M : Type 1} → statement M

@@ -1,4 +1,4 @@
--- `store::put_data` meets its contract: the data lie in the frame's cell behind its head, so that their write is a write of that cell.
+-- `store::put_data` meets its contract: the data lie in the delivery's cell behind its first byte, so that their write is a write of that cell.
 -- Assumes nothing.
 use mathlib.Core.Path.{_≡_, ap, sym, _∙_}
 use mathlib.Core.List.{List}
@@ -8,10 +8,10 @@ use lib.ListN.{length}
 use lib.Seq.{paste, length-paste}
 use borrow.Author.Needs.{needs}
 use Rattle.store.specs.Memory.{part, over}
-use Rattle.store.specs.Node.{Frame, nodeOf, framesAt, filled, withFrame}
+use Rattle.store.specs.Node.{deliveriesAt}
 use Rattle.store.proofs.Parts.{part-lent, part-back, part-within, length-part, length-over, over-within}
-use Rattle.store.proofs.Cells.{frame-filled}
-use Rattle.store.proofs.Places.{frame-read, frame-written}
+use Rattle.store.proofs.Cells.{delivery-filled}
+use Rattle.store.proofs.Places.{delivery-read, delivery-written}
 use Rattle.store.proofs.put_data.Statement.{statement}
 use Rattle.store.proofs.put_data.Tie as tie
 
@@ -48,17 +48,21 @@ returns c =
     let node = s .args .node .now in
     let bytes = s .args .bytes .now in
     let f = s .args .f in
-    let at : ℕ = framesAt + f * 37 in
-    let cell : List ℕ = part node at 37 in
-    let size : length cell ≡ 37 = length-part node at 37 (omega arith) in
-    let old : length (part cell 5 32) ≡ 32 = length-part cell 5 32 (omega arith) in
-    let new : List ℕ = paste (part cell 5 32) 0 bytes (length bytes) in
-    let room : length new ≡ 32 = length-paste (part cell 5 32) 0 bytes (length bytes) (omega arith) (omega arith) ∙ old in
-    let lent = part-lent node (at + 5) 32 ∙ sym (part-within node at 37 5 32 (omega arith) (omega arith)) in
+    let at : ℕ = deliveriesAt + f * 33 in
+    let cell : List ℕ = part node at 33 in
+    let size : length cell ≡ 33 = length-part node at 33 (omega arith) in
+    let old : length (part cell 1 32) ≡ 32 = length-part cell 1 32 (omega arith) in
+    let new : List ℕ = paste (part cell 1 32) 0 bytes (length bytes) in
+    let room : length new ≡ 32 = length-paste (part cell 1 32) 0 bytes (length bytes) (omega arith) (omega arith) ∙ old in
+    let lent = part-lent node (at + 1) 32 ∙ sym (part-within node at 33 1 32 (omega arith) (omega arith)) in
     let copied = c .before .before .copy .ensures ∙ ap (λ (l : List ℕ). paste l 0 bytes (length bytes)) lent in
-    ap nodeOf (part-back node (at + 5) 32 copied ∙ over-within node at 37 5 32 new (omega arith) (omega arith))
-    ∙ frame-written node (s .pre .2) f (over cell 5 32 new) (s .pre .0) (length-over cell 5 32 new (omega arith) room ∙ size)
-    ∙ ap (withFrame (nodeOf node) f) (frame-filled cell bytes size ∙ ap (λ (h : Frame). filled h bytes) (sym (frame-read node f (s .pre .0))))
+    cc (
+      part-back node (at + 1) 32 copied,
+      over-within node at 33 1 32 new (omega arith) (omega arith),
+      delivery-written node (s .pre .2) f (over cell 1 32 new) (s .pre .0) (length-over cell 1 32 new (omega arith) room ∙ size),
+      delivery-filled cell bytes size,
+      delivery-read node f (s .pre .0),
+    )
 
 pub put-data-spec : {M : Type 1} → statement M
 put-data-spec =

@@ -1,9 +1,8 @@
 -- `store::put_frame` meets its contract: the cell is written where it lies, and what is stored there is read back.
 -- Assumes nothing.
-use mathlib.Core.Path.{refl, ap, _∙_}
-use Prim.Native.Nat.{ℕ, _+_, _*_}
+use Prim.Native.Nat.{_+_, _*_}
 use borrow.Author.Needs.{needs}
-use Rattle.store.specs.Node.{nodeOf, framesAt, frameBytes, emptied, withFrame}
+use Rattle.store.specs.Node.{framesAt, frameBytes}
 use Rattle.store.proofs.Parts.{part-back}
 use Rattle.store.proofs.Cells.{frame-size, frame-decoded}
 use Rattle.store.proofs.Places.{frame-written}
@@ -39,11 +38,12 @@ returns c =
     let s = c .before .before .before .before .before in
     let node = s .args .node .now in
     let f = s .args .f in
-    let h = emptied (s .args .h) in
-    let at : ℕ = framesAt + f * 37 in
-    ap nodeOf (part-back node at 37 (c .before .before .write-frame .ensures))
-    ∙ frame-written node (s .pre .1) f (frameBytes h) (s .pre .0) (frame-size h)
-    ∙ ap (withFrame (nodeOf node) f) (frame-decoded h refl)
+    let h = s .args .h in
+    cc (
+      part-back node (framesAt + f * 6) 6 (c .before .before .write-frame .ensures),
+      frame-written node (s .pre .1) f (frameBytes h) (s .pre .0) (frame-size h),
+      frame-decoded h,
+    )
 
 pub put-frame-spec : {M : Type 1} → statement M
 put-frame-spec =

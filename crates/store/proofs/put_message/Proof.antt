@@ -1,10 +1,9 @@
 -- `store::put_message` meets its contract: the cell is written where it lies, and what is stored there is read back.
 -- Assumes nothing.
-use mathlib.Core.Path.{ap, _∙_}
-use Prim.Native.Nat.{ℕ, _+_, _*_}
+use Prim.Native.Nat.{_+_, _*_}
 use native.Mathlib.Omega.{arith}
 use borrow.Author.Needs.{needs}
-use Rattle.store.specs.Node.{nodeOf, messagesAt, messageBytes, withMessage}
+use Rattle.store.specs.Node.{messagesAt, messageBytes}
 use Rattle.store.proofs.Parts.{part-back}
 use Rattle.store.proofs.Cells.{message-size, message-decoded}
 use Rattle.store.proofs.Places.{message-written}
@@ -41,10 +40,11 @@ returns c =
     let node = s .args .node .now in
     let m = s .args .m in
     let g = s .args .g in
-    let at : ℕ = messagesAt + m * 26 in
-    ap nodeOf (part-back node at 26 (c .before .before .write-message .ensures))
-    ∙ message-written node (s .pre .2) m (messageBytes g) (s .pre .0) (message-size g)
-    ∙ ap (withMessage (nodeOf node) m) (message-decoded g (omega arith) (omega arith) (s .pre .1))
+    cc (
+      part-back node (messagesAt + m * 16) 16 (c .before .before .write-message .ensures),
+      message-written node (s .pre .1) m (messageBytes g) (s .pre .0) (message-size g),
+      message-decoded g (omega arith) (omega arith),
+    )
 
 pub put-message-spec : {M : Type 1} → statement M
 put-message-spec =

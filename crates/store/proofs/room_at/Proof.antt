@@ -2,19 +2,19 @@
 -- Assumes nothing.
 use Prim.Native.Nat.{_+_, _*_}
 use borrow.Author.Needs.{needs}
-use Rattle.store.specs.Node.{framesAt, roomOf}
+use Rattle.store.specs.Node.{deliveriesAt, roomOf}
 use Rattle.store.proofs.Parts.{part-lent}
 use Rattle.store.proofs.room_at.Statement.{statement}
 use Rattle.store.proofs.room_at.Tie as tie
 
-mul-at : tie.Need-mul-at
-mul-at c = search needs
-
-add-at : tie.Need-add-at
-add-at c = search needs
+mul-from : tie.Need-mul-from
+mul-from c = search needs
 
 add-from : tie.Need-add-from
 add-from c = search needs
+
+add-from-2 : tie.Need-add-from-2
+add-from-2 c = search needs
 
 add-end : tie.Need-add-end
 add-end c = search needs
@@ -30,8 +30,17 @@ part-result-end c = search needs
 
 returns : tie.Need-returns
 unfolding roomOf
-returns c = part-lent (c .before .args .node .now) (framesAt + c .before .args .f * 37 + 5) 40
+returns c = part-lent (c .before .args .node .now) (deliveriesAt + c .before .args .f * 33 + 1) 40
 
 pub room-at-spec : {M : Type 1} → statement M
 room-at-spec =
-    tie.close (tie.spec mul-at add-at add-from add-end sub-result part-result-start part-result-end returns)
+    tie.close
+    (tie.spec
+    mul-from
+    add-from
+    add-from-2
+    add-end
+    sub-result
+    part-result-start
+    part-result-end
+    returns)

@@ -1,10 +1,8 @@
 -- `store::start_message_or_none` meets its contract: by whether there is a message m.
 -- Assumes nothing.
-use mathlib.Core.Path.{refl}
 use borrow.Author.Needs.{needs}
 use borrow.Author.Tests.{lt-ltb, le-ltb}
 use Rattle.store.specs.Start.{startMessageOrNone}
-use Rattle.store.proofs.Laws.{none-stored}
 use Rattle.store.proofs.start_message_or_none.Statement.{statement}
 use Rattle.store.proofs.start_message_or_none.Tie as tie
 
@@ -16,12 +14,15 @@ start-message-requires c κs = search needs
 
 returns-message : tie.Need-returns
 unfolding startMessageOrNone
-returns-message c = (rw (lt-ltb _ _ (c .before .if1 .taken)) (c .start-message .ensures .0), c .start-message .ensures .1)
+returns-message c = rw (lt-ltb _ _ (c .before .if1 .taken)) (c .start-message .ensures)
+
+no-message-requires : tie.Need-no-message-requires
+no-message-requires c κs = search needs
 
 returns-none : tie.Need-returns-2
 unfolding startMessageOrNone
-returns-none c = (rw (le-ltb _ _ (c .if1 .left)) refl, none-stored)
+returns-none c = rw (le-ltb _ _ (c .before .if1 .left)) (c .no-message .ensures)
 
 pub start-message-or-none-spec : {M : Type 1} → statement M
 start-message-or-none-spec =
-    tie.close (tie.spec add-start-message start-message-requires returns-message returns-none)
+    tie.close (tie.spec add-start-message start-message-requires returns-message no-message-requires returns-none)

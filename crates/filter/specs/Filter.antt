@@ -12,7 +12,7 @@ use lib.ListN.{getD}
 use lib.Signed.{ltZ, leZ}
 use Rattle.whole.specs.Whole.{eqZ}
 use Rattle.packing.specs.Values.{valueOf, patternOf}
-use Rattle.float.specs.Patterns.{floatNumber, rankOf}
+use Rattle.float.specs.Patterns.{floatNumber}
 
 -- a value's pattern under a mask
 unfoldable pub masked : ℕ → ℤ → ℕ
@@ -55,9 +55,3 @@ rules sign x1 x2 new old =
 -- a number above 13 passes nothing
 unfoldable pub passes : ℕ → ℕ → ℕ → ℕ → ℤ → ℤ → Bool
 passes filter sign x1 x2 new old = getD (rules sign x1 x2 new old) filter false
-
--- ---- as the code compares
-
--- in place of the number of a float its rank, which is small
-unfoldable pub keyOf : ℕ → ℤ → ℤ
-keyOf sign v = cond (eqb sign 2) (rankOf (patternOf 32 v)) v

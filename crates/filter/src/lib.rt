@@ -1,6 +1,8 @@
 // The message filters, 0 to 13.
 ghost use mathlib.Core.Path.{_≡_};
-ghost use Rattle.filter.specs.Filter.{masked, bound, keyOf, passes};
+ghost use Rattle.packing.specs.Values.{patternOf};
+ghost use Rattle.float.specs.Patterns.{rankOf};
+ghost use Rattle.filter.specs.Filter.{masked, below, atMost, bound, passes};
 
 // A value's 32-bit pattern under a mask.
 fn mask(x: u32, value: i64) -> u32
@@ -17,50 +19,47 @@ fn bound_of(sign: u8, x: u32) -> i64
 }
 
 // A float is compared by its rank, since its number would not fit.
-fn key_of(sign: u8, value: i64) -> i64
-    ensures { λ r. ⌜ r ≡ keyOf sign value ⌝ }
+fn rank_of(value: i64) -> i64
+    ensures { λ r. ⌜ r ≡ rankOf (patternOf 32 value) ⌝ }
+{
+    float::rank_of(packing::pattern_of(value))
+}
+
+// The order of values.
+fn is_below(sign: u8, u: i64, v: i64) -> bool
+    ensures { λ r. ⌜ r ≡ below sign u v ⌝ }
 {
     if sign == 2 {
-        return float::rank_of(packing::pattern_of(value));
+        return rank_of(u) < rank_of(v);
     }
-    value
+    u < v
 }
 
-// What the rule of that number says.
-fn by_rule(filter: u8, sign: u8, x1: u32, x2: u32, new: i64, old: i64) -> bool
-    ensures { λ r. ⌜ r ≡ passes filter sign x1 x2 new old ⌝ }
+fn is_at_most(sign: u8, u: i64, v: i64) -> bool
+    ensures { λ r. ⌜ r ≡ atMost sign u v ⌝ }
 {
-    let masked_new = mask(x1, new);
-    let masked_old = mask(x1, old);
-    let low = key_of(sign, bound_of(sign, x1));
-    let high = key_of(sign, bound_of(sign, x2));
-    let new_key = key_of(sign, new);
-    let old_key = key_of(sign, old);
-    match filter {
-        0 => true,
-        1 => false,
-        2 => masked_new == x2,
-        3 => masked_new != x2,
-        4 => new == old,
-        5 => new != old,
-        6 => masked_new == masked_old,
-        7 => masked_new != masked_old,
-        8 => (low <= new_key) & (new_key <= high),
-        9 => (new_key < low) | (high < new_key),
-        10 => old_key < new_key,
-        11 => new_key <= old_key,
-        12 => new_key < old_key,
-        13 => old_key <= new_key,
-        14..=255 => false,
-    }
+    !is_below(sign, v, u)
 }
 
-// Whether a message's filter passes a new value, where old is the one last put to it. Most messages have filter 0: it takes no call.
+// Whether a message's filter passes a new value, where old is the one last put to it.
 pub fn passes(filter: u8, sign: u8, x1: u32, x2: u32, new: i64, old: i64) -> bool
     ensures { λ r. ⌜ r ≡ passes filter sign x1 x2 new old ⌝ }
 {
-    if filter == 0 {
-        return true;
+    match filter {
+        0 => true,
+        1 => false,
+        2 => mask(x1, new) == x2,
+        3 => mask(x1, new) != x2,
+        4 => new == old,
+        5 => new != old,
+        6 => mask(x1, new) == mask(x1, old),
+        7 => mask(x1, new) != mask(x1, old),
+        8 => is_at_most(sign, bound_of(sign, x1), new) & is_at_most(sign, new, bound_of(sign, x2)),
+        9 => is_below(sign, new, bound_of(sign, x1)) | is_below(sign, bound_of(sign, x2), new),
+        10 => is_below(sign, old, new),
+        11 => is_at_most(sign, new, old),
+        12 => is_below(sign, new, old),
+        13 => is_at_most(sign, old, new),
+        14..=255 => false,
     }
-    by_rule(filter, sign, x1, x2, new, old)
 }

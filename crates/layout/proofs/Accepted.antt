@@ -10,9 +10,9 @@ use native.Mathlib.Nat.{not-suc-le-zero}
 use native.Mathlib.Omega.{arith}
 use lib.ListN.{length}
 use Rattle.record.specs.Records.{byteAt, isField, frameAt, messageAt, fieldAt}
-use Rattle.record.specs.Ranges.{findingAt, AllRight}
+use Rattle.ranges.specs.Ranges.{findingAt, AllRight}
 use Rattle.record.specs.declared.Field.{Field}
-use Rattle.record.proofs.Lowest.{range-right}
+use Rattle.ranges.proofs.Lowest.{range-right}
 use Rattle.record.proofs.Tests.{to-last, bounded, meanings}
 use Rattle.layout.specs.Verdict.{sizeFault, isFieldOf, fieldsOf, fails, noField, complete, failsAt, refusalAt, judged, verdict}
 use Rattle.layout.specs.WellLaid.{FrameRecord, MessageRecord, FieldRecord, Below, theField, itsMessage, itsFrame, WellLaid}

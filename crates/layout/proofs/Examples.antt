@@ -9,7 +9,7 @@ use Rattle.packing.specs.Values.{isWidth, extend, extended}
 use Rattle.float.specs.Patterns.{aside}
 use Rattle.record.specs.Numbers.{tally, anyBelow, leastBelow}
 use Rattle.record.specs.Records.{byteAt, wordAt, isFrame, isMessage, isField, frameAt, messageAt, fieldAt, pairBelow}
-use Rattle.record.specs.Ranges.{
+use Rattle.ranges.specs.Ranges.{
   wrongIf,
   wordFits,
   wordFinding,
@@ -23,7 +23,7 @@ use Rattle.record.specs.Ranges.{
   rangeFault,
 }
 use Rattle.record.specs.Runs.{pastEnd, meet, clash}
-use Rattle.record.specs.declared.Fault.{Fault}
+use Rattle.ranges.specs.declared.Fault.{Fault}
 use Rattle.layout.specs.Counts.{countsBefore}
 use Rattle.layout.specs.Verdict.{
   sizeFault,

@@ -13,7 +13,7 @@ use lib.ListN.{length, getD}
 use lib.Seq.{getD-set-other}
 use borrow.Author.Tests.{ne-eqb}
 use Rattle.record.specs.Records.{byteAt, isFrame, isMessage, isField, frameAt, messageAt, fieldAt, pairBelow}
-use Rattle.record.specs.Ranges.{
+use Rattle.ranges.specs.Ranges.{
   wrongIf,
   isMask,
   isFloat,
@@ -35,9 +35,9 @@ use Rattle.record.specs.Runs.{clash}
 use Rattle.record.specs.declared.Frame.{Frame}
 use Rattle.record.specs.declared.Message.{Message}
 use Rattle.record.specs.declared.Field.{Field}
-use Rattle.record.specs.declared.Fault.{Fault}
-use Rattle.record.specs.declared.Finding.{Finding}
-use Rattle.record.proofs.Lowest.{wrong-if-right, Right, list-right}
+use Rattle.ranges.specs.declared.Fault.{Fault}
+use Rattle.ranges.specs.declared.Finding.{Finding}
+use Rattle.ranges.proofs.Lowest.{wrong-if-right, Right, list-right}
 use Rattle.record.proofs.Tests.{or-holds, meanings}
 use Rattle.layout.specs.Counts.{frameNumbered, messageNumbered}
 use Rattle.layout.specs.Verdict.{orderFault, refFault, isFieldOf, fieldsOf, unlike, groupFault, clashAt, placeFault}

@@ -2,7 +2,7 @@
 -- Assumes nothing.
 use Prim.Native.Nat.{ℕ, _≤_}
 use native.Mathlib.Omega.{arith}
-use Rattle.record.specs.declared.Fault.{Fault}
+use Rattle.ranges.specs.declared.Fault.{Fault}
 use Rattle.layout.specs.Numbers.{faultNumber, numberOf}
 use Rattle.layout.specs.declared.Refusal.{Refusal}
 

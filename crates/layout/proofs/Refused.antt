@@ -8,10 +8,10 @@ use mathlib.Core.Logic.{_↔_, _⊎_, inl, inr, ⊎-elim, ⊎-map}
 use Prim.Native.Nat.{ℕ, _+_, _<_, _≤_}
 use native.Mathlib.Omega.{arith}
 use Rattle.record.specs.Numbers.{anyBelow, leastBelow, oneOf}
-use Rattle.record.specs.Ranges.{rangeFault, isFault}
-use Rattle.record.specs.declared.Fault.{Fault}
-use Rattle.record.specs.declared.RangeFault.{RangeFault}
-use Rattle.record.proofs.Lowest.{range-right, range-none, range-lowest, after-kind}
+use Rattle.ranges.specs.Ranges.{rangeFault, isFault}
+use Rattle.ranges.specs.declared.Fault.{Fault}
+use Rattle.ranges.specs.declared.RangeFault.{RangeFault}
+use Rattle.ranges.proofs.Lowest.{range-right, range-none, range-lowest, after-kind}
 use Rattle.record.proofs.Searches.{Least, least-below, least}
 use Rattle.record.proofs.Tests.{any-clear, meanings}
 use Rattle.layout.specs.Counts.{countsBefore}

@@ -4,7 +4,7 @@ use mathlib.Core.Path.{_≡_}
 use mathlib.Core.List.{List}
 use mathlib.Core.Logic.{_↔_}
 use Prim.Native.Nat.{ℕ, _<_, _≤_}
-use Rattle.record.specs.declared.Fault.{Fault}
+use Rattle.ranges.specs.declared.Fault.{Fault}
 use Rattle.layout.specs.Verdict.{verdict}
 use Rattle.layout.specs.Refusals.{Demanded}
 use Rattle.layout.specs.WellLaid.{WellLaid}

@@ -1,7 +1,7 @@
 -- The paper's number of each refusal, and the byte that it gives.
 -- Assumes nothing.
 use Prim.Native.Nat.{ℕ}
-use Rattle.record.specs.declared.Fault.{Fault}
+use Rattle.ranges.specs.declared.Fault.{Fault}
 use Rattle.layout.specs.declared.Refusal.{Refusal}
 
 -- 3 RANGE, 8 RESERVED, 9 UNUSED, 10 WIDTH

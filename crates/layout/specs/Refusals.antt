@@ -7,8 +7,8 @@ use mathlib.Core.Bool.{true, false}
 use mathlib.Core.List.{List}
 use Prim.Native.Nat.{ℕ, _+_, _/_, _<_, _≤_}
 use lib.ListN.{length}
-use Rattle.record.specs.Ranges.{findingAt, LowestWrong, AllRight}
-use Rattle.record.specs.declared.Fault.{Fault}
+use Rattle.ranges.specs.Ranges.{findingAt, LowestWrong, AllRight}
+use Rattle.ranges.specs.declared.Fault.{Fault}
 use Rattle.layout.specs.Counts.{countsBefore}
 use Rattle.layout.specs.Verdict.{sizeFault, orderFault, refFault, fieldsOf, groupFault, placeFault}
 use Rattle.layout.specs.declared.Counts.{Counts}

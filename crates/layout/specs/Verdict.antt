@@ -8,11 +8,11 @@ use lib.Dec.{eqb, ltb, leb}
 use lib.ListN.{length}
 use Rattle.record.specs.Numbers.{within, tally, anyBelow, leastBelow, oneOf}
 use Rattle.record.specs.Records.{byteAt, isFrame, isMessage, isField, fieldAt, recordAt, pairBelow}
-use Rattle.record.specs.Ranges.{rangeFault, isFault}
+use Rattle.ranges.specs.Ranges.{rangeFault, isFault}
 use Rattle.record.specs.Runs.{messageRun, statusRun, pastEnd, meet, clash}
 use Rattle.record.specs.declared.Message.{Message}
 use Rattle.record.specs.declared.Field.{Field}
-use Rattle.record.specs.declared.RangeFault.{RangeFault}
+use Rattle.ranges.specs.declared.RangeFault.{RangeFault}
 use Rattle.layout.specs.Counts.{countsBefore, frameNumbered, messageNumbered}
 use Rattle.layout.specs.declared.Counts.{Counts}
 use Rattle.layout.specs.declared.Refusal.{Refusal}

@@ -11,7 +11,7 @@ use lib.ListN.{length}
 use Rattle.packing.specs.Values.{extended}
 use Rattle.float.specs.Patterns.{aside}
 use Rattle.record.specs.Records.{byteAt, frameAt, messageAt, fieldAt}
-use Rattle.record.specs.Ranges.{usesX1, usesX2, isMask}
+use Rattle.ranges.specs.Ranges.{usesX1, usesX2, isMask}
 use Rattle.record.specs.declared.Frame.{Frame}
 use Rattle.record.specs.declared.Message.{Message}
 use Rattle.record.specs.declared.Field.{Field}

@@ -19,10 +19,10 @@ ghost use Rattle.layout.specs.Verdict.{
   judged,
   verdict,
 };
-use record::Fault;
+use ranges::Fault;
+use ranges::RangeFault;
 use record::Field;
 use record::Message;
-use record::RangeFault;
 use record::Record;
 
 // How many records of each kind there are.
@@ -268,7 +268,7 @@ fn read_record(file: &[u8], i: usize, c: Counts) -> Read
     if order_fault(file, i, c) {
         return Read::Refused(Refusal::Order);
     }
-    if let RangeFault::At { fault, byte } = record::range_fault(file, i) {
+    if let RangeFault::At { fault, byte } = ranges::range_fault(file, i) {
         return Read::Refused(Refusal::Byte { fault, byte });
     }
     if ref_fault(file, i, c) {

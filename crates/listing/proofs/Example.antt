@@ -5,7 +5,7 @@ use mathlib.Core.Path.{_≡_, refl}
 use mathlib.Core.List.{List, [], _∷_, _++_}
 use Prim.Native.Nat.{ℕ}
 use Rattle.record.specs.Records.{byteAt, messageAt, fieldAt}
-use Rattle.record.specs.declared.Fault.{Fault}
+use Rattle.ranges.specs.declared.Fault.{Fault}
 use Rattle.layout.specs.declared.Refusal.{Refusal}
 use Rattle.layout.proofs.Examples.{filled, paper, paper-accepted}
 use Rattle.listing.specs.Text.{digits, statusText, lineOf, lineAt, lines, heading, refusedWord, recordWord, byteText, refusalText, listing}

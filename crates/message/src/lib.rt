@@ -1,7 +1,9 @@
 // What a call or a closing makes of one message and of one field, by value: no memory.
 ghost use mathlib.Core.Path.{_≡_};
-ghost use Rattle.store.specs.Node.{withStatus};
-ghost use Rattle.message.specs.Messages.{canHold, agreedBy, offered, invalidated, filtered, agreedOn};
+ghost use mathlib.Core.Bool.{cond};
+ghost use Rattle.packing.specs.Values.{patternOf};
+ghost use Rattle.store.specs.Node.{withStatus, withHeld, withOld};
+ghost use Rattle.message.specs.Messages.{canHold, offered, invalidated, agreedBy, filtered, agreedOn};
 ghost use Rattle.message.specs.Fields.{stageAfter, isGone, writes};
 use agreement::Agreed;
 use store::Field;
@@ -23,25 +25,38 @@ pub enum Change {
 pub fn can_hold(g: Message, value: i64) -> bool
     ensures { λ r. ⌜ r ≡ canHold g value ⌝ }
 {
-    let in_range = packing::in_range(value, g.width, g.sign == 1);
-    let aside = float::is_aside(packing::pattern_of(value));
-    in_range & !((g.sign == 2) & aside)
+    if g.sign == 2 {
+        if float::is_aside(packing::pattern_of(value)) {
+            return false;
+        }
+    }
+    packing::in_range(value, g.width, g.sign == 1)
 }
 
-// The state after a value was put to the message's filter by a sending.
+// A value that was put to the filter is the next old value, and held if it passed.
+fn put(s: MessageState, value: i64, passed: bool) -> MessageState
+    ensures { λ r. ⌜ r ≡ cond passed (withHeld (patternOf 32 value) (withOld (patternOf 32 value) s)) (withOld (patternOf 32 value) s) ⌝ }
+{
+    let pattern = packing::pattern_of(value);
+    let mut t = s;
+    t.old = pattern;
+    if passed {
+        t.held = pattern;
+    }
+    t
+}
+
+// The state after a value was put to the message's filter by a sending. Most messages have filter 0: it takes no call.
 pub fn offered_state(g: Message, s: MessageState, value: i64) -> MessageState
     ensures { λ r. ⌜ r ≡ offered g s value ⌝ }
 {
-    let pattern = packing::pattern_of(value);
-    let old = packing::value_of(s.old, 32, g.sign == 1);
-    let mut t = s;
-    t.old = pattern;
-    if filter::passes(g.filter, g.sign, g.x1, g.x2, value, old) {
-        t.valid = 1;
-        t.held = pattern;
-        return t;
+    let mut passed = true;
+    if g.filter != 0 {
+        let old = packing::value_of(s.old, 32, g.sign == 1);
+        passed = filter::passes(g.filter, g.sign, g.x1, g.x2, value, old);
     }
-    t.valid = 0;
+    let mut t = put(s, value, passed);
+    t.valid = passed as u8;
     t
 }
 
@@ -65,16 +80,13 @@ pub fn with_status(s: MessageState, status: u8) -> MessageState
 fn filtered_state(g: Message, s: MessageState, agreed: i64) -> MessageState
     ensures { λ r. ⌜ r ≡ filtered g s agreed ⌝ }
 {
-    let pattern = packing::pattern_of(agreed);
-    let old = packing::value_of(s.old, 32, g.sign == 1);
-    let mut t = s;
-    t.old = pattern;
-    if filter::passes(g.filter, g.sign, g.x1, g.x2, agreed, old) {
-        t.status = 0;
-        t.held = pattern;
-        return t;
+    let mut passed = true;
+    if g.filter != 0 {
+        let old = packing::value_of(s.old, 32, g.sign == 1);
+        passed = filter::passes(g.filter, g.sign, g.x1, g.x2, agreed, old);
     }
-    t.status = 21;
+    let mut t = put(s, agreed, passed);
+    t.status = if passed { 0 } else { 21 };
     t
 }
 
@@ -82,7 +94,7 @@ fn filtered_state(g: Message, s: MessageState, agreed: i64) -> MessageState
 pub fn agree_by(g: Message, instances: &[i64]) -> Agreed
     ensures { λ r. ⌜ r ≡ agreedBy g (now (instances .entry)) ⌝ }
 {
-    if g.sign == 2 {
+    if g.sign == 2 { // floats
         return agreement::agree_floats(g.agreement, instances);
     }
     agreement::agree(g.agreement, instances)
@@ -112,13 +124,11 @@ pub fn stage_after(change: Change, x: Field) -> Stage
         },
         Change::Load => match stage {
             Stage::Waiting => Stage::Loaded,
-            Stage::Loaded => Stage::Loaded,
-            Stage::Gone(k) => Stage::Gone(k),
+            _ => stage,
         },
         Change::Consume => match stage {
-            Stage::Waiting => Stage::Waiting, // the value sent last was not in the frame
             Stage::Loaded => Stage::Gone(2),
-            Stage::Gone(k) => Stage::Gone(k),
+            _ => stage, // a waiting one stays: the value sent last was not in the frame
         },
     }
 }

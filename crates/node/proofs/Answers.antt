@@ -1,6 +1,6 @@
 -- What answer 0 tells: the tests come one after the other, each with an answer of its own, so that answer 0 says that each was passed.
 -- Assumes nothing.
-use mathlib.Core.Path.{_≡_, refl}
+use mathlib.Core.Path.{_≡_, refl, sym, _∙_}
 use mathlib.Core.Bool.{Bool, true, false, not, cond}
 use Prim.Native.Nat.{ℕ, suc, _<_, min}
 use native.Mathlib.Omega.{arith}
@@ -10,6 +10,10 @@ use borrow.Author.Tests.{ltb-true, eqb-true, not-false}
 use Rattle.store.specs.Node.{Layout, Node, frameCount, messageCount, isSent, hasStatusBit, isSentFrame, frameAt, messageAt}
 use Rattle.message.specs.Messages.{canHold}
 use Rattle.node.specs.Calls.{sendAnswer, invalidateAnswer, assembleAnswer, deliverAnswer, receiveAnswer}
+
+-- a message or frame that the code found to be one of the layout is one that the memory has a cell for
+pub counted : (i number : ℕ) {r : Bool} → r ≡ ltb i (min number 32) → not r ≡ false → i < 32
+counted i number e h = omega (arith, ltb-true i (min number 32) (sym e ∙ not-false _ h))
 
 -- one test, and the tests after it
 passed : (t : Bool) (k r : ℕ) → cond t (suc k) r ≡ 0 → (t ≡ false) × (r ≡ 0)

@@ -11,7 +11,7 @@ use borrow.Author.Tests.{lt-ltb, le-ltb}
 use Rattle.store.specs.Node.{Node, frameCount, messageCount, noDelivery, noState, deliveryAt, stateAt}
 use Rattle.node.specs.Closing.{closedState, isReceived, closeMessages, forget, closeOf}
 use Rattle.node.specs.Sound.{Sound}
-use Rattle.node.proofs.Lists.{changed-length, changed-at}
+use Rattle.own.proofs.Lists.{changed-length, changed-at}
 
 module _ {n : Node} (s : Sound n) where
   -- a received message is closed, and any other stays

@@ -31,11 +31,11 @@ use Rattle.store.specs.Start.{table}
 use Rattle.store.proofs.Tables.{length-table}
 use Rattle.message.specs.Messages.{canHold, agreedBy}
 use Rattle.message.proofs.Held.{float-unsigned, holds-whole, holds-float}
-use Rattle.node.specs.declared.Owner.{Owner}
-use Rattle.node.specs.Own.{chosen, firstPlace, endPlace, cellAt, owns, cellsOf, fieldsOf}
+use Rattle.own.specs.declared.Owner.{Owner}
+use Rattle.own.specs.Own.{chosen, firstPlace, endPlace, cellAt, owns, cellsOf, fieldsOf}
 use Rattle.node.specs.Closing.{counts, valueIn, instances}
-use Rattle.node.proofs.Lists.{chosen-few}
-use Rattle.node.proofs.Tables.{all-pass, all-map}
+use Rattle.own.proofs.Lists.{chosen-few}
+use Rattle.own.proofs.Tables.{all-pass, all-map}
 
 -- ---- the value of what stands at a message's places
 

@@ -44,13 +44,13 @@ use Rattle.message.specs.declared.Change.{Change}
 use Rattle.message.specs.Messages.{canHold, passesNow, put, offered, filtered, agreedBy, agreedOn, settled}
 use Rattle.message.specs.Fields.{stageAfter}
 use Rattle.message.proofs.Held.{held-in-range}
-use Rattle.node.specs.declared.Owner.{Owner}
-use Rattle.node.specs.Own.{changed, isIn, cellsOf}
+use Rattle.own.specs.declared.Owner.{Owner}
+use Rattle.own.specs.Own.{changed, isIn, cellsOf}
 use Rattle.node.specs.Calls.{outcome, sendAnswer, sendOf, invalidateAnswer, invalidateOf}
 use Rattle.node.specs.Calls.{assembleAnswer, assembleOf, consumedAnswer, consumedOf, deliverAnswer, kept, deliverOf}
 use Rattle.node.specs.Closing.{instances, noneCame, closedState, closeMessages, forget, closeOf}
 use Rattle.node.specs.Sound.{SoundDelivery, IsStatus, SoundMessageState, IsStage, SoundState, Sound}
-use Rattle.node.proofs.Lists.{by-test, changed-length, changed-at}
+use Rattle.own.proofs.Lists.{by-test, changed-length, changed-at}
 use Rattle.node.proofs.Answers.{send-tests, invalidate-tests, deliver-tests}
 use Rattle.node.proofs.Instances.{agreed-in-message}
 

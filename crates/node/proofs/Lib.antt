@@ -1,11 +1,7 @@
-pub mod Lists
-pub mod Tables
-pub mod Owners
 pub mod Answers
 pub mod Outcomes
 pub mod Loops
 pub mod Turns
-pub mod Stretches
 pub mod Instances
 pub mod Rounds
 pub mod Delivered

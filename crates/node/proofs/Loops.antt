@@ -9,8 +9,8 @@ use native.Mathlib.Numerals.{add-one}
 use native.Mathlib.Omega.{arith}
 use lib.ListN.{length, getD, set, take, drop, take-append-drop}
 use lib.Seq.{drop-cons, take-suc, length-take-le, getD-at, set-at, set-getD}
-use Rattle.node.specs.Own.{changed}
-use Rattle.node.proofs.Lists.{by-test, changed-length, changed-at}
+use Rattle.own.specs.Own.{changed}
+use Rattle.own.proofs.Lists.{by-test, changed-length, changed-at}
 
 module _ {A : Type 0} (p : ℕ → Bool) (g : ℕ → A → A) where
   rest-stays : (i k : ℕ) (l : List A) → ((j : ℕ) → p j ≡ true → j < i + k) → drop k (changed p g i l) ≡ drop k l

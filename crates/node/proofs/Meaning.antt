@@ -22,12 +22,13 @@ use Rattle.store.specs.declared.MessageState.{MessageState}
 use Rattle.store.specs.Node.{Layout, Node, messageCount, isSigned, isSent, isValid, isBig, heldValue, frameAt, messageAt, laidAt, stateAt}
 use Rattle.message.specs.Fields.{statusPlaces, writes}
 use Rattle.message.proofs.Held.{held-in-range}
-use Rattle.node.specs.declared.Owner.{Owner}
-use Rattle.node.specs.Own.{isIn, cellsOf, fieldsOf}
+use Rattle.own.specs.declared.Owner.{Owner}
+use Rattle.own.specs.Own.{isIn, cellsOf, fieldsOf}
 use Rattle.node.specs.Calls.{assembleAnswer, written, assembled, receiveAnswer}
-use Rattle.node.specs.Sound.{IsStatus, messagePlaces, itsStatusPlaces, SoundField, SoundMessageState, Apart, Sound}
-use Rattle.node.proofs.Lists.{by-test, Every, every-number, in-cases}
-use Rattle.node.proofs.Owners.{cell-names, fields-named}
+use Rattle.own.specs.SoundLayout.{messagePlaces, itsStatusPlaces, SoundField, Apart}
+use Rattle.node.specs.Sound.{IsStatus, SoundMessageState, Sound}
+use Rattle.own.proofs.Lists.{by-test, Every, every-number, in-cases}
+use Rattle.own.proofs.Owners.{cell-names, fields-named}
 use Rattle.node.proofs.Answers.{assemble-tests}
 
 -- ---- assembling

@@ -38,8 +38,8 @@ use Rattle.store.specs.Node.{
 }
 use Rattle.store.proofs.Laws.{deliveries-length}
 use Rattle.message.specs.Messages.{agreedBy, agreedOn, settled}
-use Rattle.node.specs.declared.Owner.{Owner}
-use Rattle.node.specs.Own.{chosen, firstPlace, endPlace, ownCell}
+use Rattle.own.specs.declared.Owner.{Owner}
+use Rattle.own.specs.Own.{chosen, firstPlace, endPlace, cellAt, owns}
 use Rattle.node.specs.Closing.{came, statusSet, counts, valueIn, instances, noneCame, closedState, isReceived, closeMessages, forget}
 use Rattle.node.proofs.Loops.{changedTo, not-yet, changed-turn, changed-skip, changed-end}
 use Rattle.node.proofs.Turns.{ahead, first-ahead, last-ahead, own-ahead, other-ahead, fields-ahead}
@@ -73,18 +73,19 @@ module _ (n : Node) (m : ℕ) where
   unfolding instances
   instances-begin = rw (first-ahead (n .layout) (Owner.Message m)) refl
 
-  module _ (i : ℕ) (here : i < endPlace (n .layout) (Owner.Message m)) {d : ℕ} (told : d ≡ ownCell (n .layout) (Owner.Message m) i) where
-    pub instances-turn : d < 128 → counts n (laidAt (n .layout) d) ≡ true
+  module _ (i : ℕ) (here : i < endPlace (n .layout) (Owner.Message m)) {d : ℕ} (told : d ≡ cellAt (n .layout) (Owner.Message m) i) {r : Bool}
+      (asked : r ≡ owns (n .layout) (Owner.Message m) d) where
+    pub instances-turn : r ≡ true → counts n (laidAt (n .layout) d) ≡ true
         → instancesAhead i ≡ valueIn n (messageAt (n .layout) m) (laidAt (n .layout) d) ∷ instancesAhead (i + 1)
     unfolding chosen
-    instances-turn small t = rw (own-ahead (n .layout) (Owner.Message m) i here told small, t) refl
+    instances-turn mine t = rw (own-ahead (n .layout) (Owner.Message m) i here told asked mine, t) refl
 
-    pub instances-skip : d < 128 → counts n (laidAt (n .layout) d) ≡ false → instancesAhead i ≡ instancesAhead (i + 1)
+    pub instances-skip : r ≡ true → counts n (laidAt (n .layout) d) ≡ false → instancesAhead i ≡ instancesAhead (i + 1)
     unfolding chosen
-    instances-skip small t = rw (own-ahead (n .layout) (Owner.Message m) i here told small, t) refl
+    instances-skip mine t = rw (own-ahead (n .layout) (Owner.Message m) i here told asked mine, t) refl
 
-    pub instances-other : (d < 128 → ⊥) → instancesAhead i ≡ instancesAhead (i + 1)
-    instances-other none = rw (other-ahead (n .layout) (Owner.Message m) i here told none) refl
+    pub instances-other : r ≡ false → instancesAhead i ≡ instancesAhead (i + 1)
+    instances-other other = rw (other-ahead (n .layout) (Owner.Message m) i here told asked other) refl
 
   pub instances-end : (i : ℕ) → endPlace (n .layout) (Owner.Message m) ≤ i → instancesAhead i ≡ []
   unfolding chosen

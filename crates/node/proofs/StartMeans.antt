@@ -14,12 +14,13 @@ use Rattle.layout.specs.WellLaid.{WellLaid}
 use Rattle.store.specs.Node.{Node, messageCount, isSent, isValid, hasStatusBit, heldValue, oldValue, noStage, messageAt, stateAt}
 use Rattle.store.specs.Start.{startStatusBit, initialValue, startMessage, startLayout, startState, startOf}
 use Rattle.message.specs.Fields.{isGone}
-use Rattle.node.specs.declared.Owner.{Owner}
-use Rattle.node.specs.Own.{cellsOf}
+use Rattle.own.specs.declared.Owner.{Owner}
+use Rattle.own.specs.Own.{cellsOf}
 use Rattle.node.specs.Calls.{flagAnswer, goneAt, flagOf, flagPlace, receiveAnswer}
 use Rattle.node.specs.Load.{loadOf}
-use Rattle.node.proofs.Starts.{message-at, state-at, load-makes}
-use Rattle.node.proofs.Tables.{alike-at, all-pass}
+use Rattle.own.proofs.Starts.{message-at}
+use Rattle.node.proofs.Starts.{state-at, load-makes}
+use Rattle.own.proofs.Tables.{alike-at, all-pass}
 
 -- node n is at start with the layout file s; a flag is read into the caller's place, whatever p it held
 pub record AtStart (s : List ℕ) (n : Node) : Type 0 where

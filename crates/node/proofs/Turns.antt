@@ -19,12 +19,12 @@ use Rattle.store.specs.Node.{Layout, State, Node, StoredStage, laidAt, stageAt,
 use Rattle.store.specs.Start.{table}
 use Rattle.message.specs.declared.Change.{Change}
 use Rattle.message.specs.Fields.{stageAfter}
-use Rattle.node.specs.declared.Owner.{Owner}
-use Rattle.node.specs.Own.{chosen, changed, isIn, firstPlace, endPlace, cellAt, owns, ownCell, cellsOf, fieldsOf}
+use Rattle.own.specs.declared.Owner.{Owner}
+use Rattle.own.specs.Own.{chosen, changed, isIn, firstPlace, endPlace, cellAt, owns, cellsOf, fieldsOf}
 use Rattle.node.specs.Calls.{isEmpty, invalidIn, allInvalid, moved}
-use Rattle.node.proofs.Lists.{changed-length, changed-at}
-use Rattle.node.proofs.Owners.{owns-parts}
-use Rattle.node.proofs.Tables.{all-map}
+use Rattle.own.proofs.Lists.{changed-length, changed-at}
+use Rattle.own.proofs.Owners.{owns-parts}
+use Rattle.own.proofs.Tables.{all-map}
 
 -- ---- the cells ahead
 
@@ -50,44 +50,31 @@ module _ (l : Layout) (o : Owner) where
   unfolding chosen table
   next-ahead i here = let more : endPlace l o - i ≡ suc (endPlace l o - (i + 1)) = omega arith in rw (more, add-one) refl
 
-  -- what the code is told of place i: a cell of the owner, or 128
-  module _ (i : ℕ) {d : ℕ} (told : d ≡ ownCell l o i) where
-    own-place : d < 128 → (owns l o (cellAt l o i) ≡ true) × (d ≡ cellAt l o i)
-    unfolding ownCell
-    own-place small = go (owns l o (cellAt l o i)) refl told
-      where
-        go : (t : Bool) → owns l o (cellAt l o i) ≡ t → d ≡ cond t (cellAt l o i) 128 → (owns l o (cellAt l o i) ≡ true) × (d ≡ cellAt l o i)
-        go true t e = (t, e)
-        go false t e = absurd (omega arith)
+  -- what the code is told of place i: its cell, and whether that is the owner's
+  module _ {d : ℕ} {r : Bool} (asked : r ≡ owns l o d) where
+    pub inside : r ≡ true → d < 128
+    inside t = owns-parts l o d .0 (sym asked ∙ t) .0
 
-    other-place : (d < 128 → ⊥) → owns l o (cellAt l o i) ≡ false
-    unfolding ownCell
-    other-place none = go (owns l o (cellAt l o i)) refl told
-      where
-        go : (t : Bool) → owns l o (cellAt l o i) ≡ t → d ≡ cond t (cellAt l o i) 128 → owns l o (cellAt l o i) ≡ false
-        go true t e = absurd (none (omega (arith, owns-parts l o (cellAt l o i) .0 t)))
-        go false t e = t
+  module _ (i : ℕ) (here : i < endPlace l o) {d : ℕ} (told : d ≡ cellAt l o i) {r : Bool} (asked : r ≡ owns l o d) where
+    pub own-ahead : r ≡ true → ahead i ≡ d ∷ ahead (i + 1)
+    own-ahead t = let mine = sym asked ∙ t in next-ahead i here ∙ rw (rw told at mine, told) refl
 
-  module _ (i : ℕ) (here : i < endPlace l o) {d : ℕ} (told : d ≡ ownCell l o i) where
-    pub own-ahead : d < 128 → ahead i ≡ d ∷ ahead (i + 1)
-    own-ahead small = let (mine, e) = own-place i told small in next-ahead i here ∙ rw (mine, e) refl
-
-    pub other-ahead : (d < 128 → ⊥) → ahead i ≡ ahead (i + 1)
-    other-ahead none = next-ahead i here ∙ rw (other-place i told none) refl
+    pub other-ahead : r ≡ false → ahead i ≡ ahead (i + 1)
+    other-ahead t = let none = sym asked ∙ t in next-ahead i here ∙ rw (rw told at none) refl
 
     -- ---- a loop that tests each cell and stops at the first that fails: X is the whole answer
 
     module _ (p : ℕ → Bool) {X : Bool} where
-      pub all-turn : d < 128 → p d ≡ true → X ≡ allOf p (ahead i) → X ≡ allOf p (ahead (i + 1))
+      pub all-turn : r ≡ true → p d ≡ true → X ≡ allOf p (ahead i) → X ≡ allOf p (ahead (i + 1))
       unfolding allOf
-      all-turn small t e = e ∙ ap (allOf p) (own-ahead small) ∙ rw t refl
+      all-turn mine t e = e ∙ ap (allOf p) (own-ahead mine) ∙ rw t refl
 
-      pub all-skip : (d < 128 → ⊥) → X ≡ allOf p (ahead i) → X ≡ allOf p (ahead (i + 1))
-      all-skip none e = e ∙ ap (allOf p) (other-ahead none)
+      pub all-skip : r ≡ false → X ≡ allOf p (ahead i) → X ≡ allOf p (ahead (i + 1))
+      all-skip other e = e ∙ ap (allOf p) (other-ahead other)
 
-      pub all-stop : d < 128 → p d ≡ false → X ≡ allOf p (ahead i) → false ≡ X
+      pub all-stop : r ≡ true → p d ≡ false → X ≡ allOf p (ahead i) → false ≡ X
       unfolding allOf
-      all-stop small t e = sym (e ∙ ap (allOf p) (own-ahead small) ∙ rw t refl)
+      all-stop mine t e = sym (e ∙ ap (allOf p) (own-ahead mine) ∙ rw t refl)
 
   pub all-end : (p : ℕ → Bool) {X : Bool} (i : ℕ) → endPlace l o ≤ i → X ≡ allOf p (ahead i) → true ≡ X
   unfolding allOf
@@ -106,17 +93,18 @@ module _ (l : Layout) (o : Owner) (s : State) where
   pub invalid-begin : allInvalid s (fieldsOf l o) ≡ invalidAhead false (firstPlace l o)
   invalid-begin = rw first-ahead refl
 
-  module _ (i : ℕ) (here : i < endPlace l o) {d : ℕ} (told : d ≡ ownCell l o i) (some : Bool) {X : Bool} (so-far : X ≡ invalidAhead some i) where
-    pub invalid-turn : d < 128 → invalidIn s (laidAt l d) ≡ true → X ≡ invalidAhead true (i + 1)
+  module _ (i : ℕ) (here : i < endPlace l o) {d : ℕ} (told : d ≡ cellAt l o i) {r : Bool} (asked : r ≡ owns l o d) (some : Bool) {X : Bool}
+      (so-far : X ≡ invalidAhead some i) where
+    pub invalid-turn : r ≡ true → invalidIn s (laidAt l d) ≡ true → X ≡ invalidAhead true (i + 1)
     unfolding allOf
-    invalid-turn small t = so-far ∙ rw (own-ahead l o i here told small, or-true, t) refl
+    invalid-turn mine t = so-far ∙ rw (own-ahead l o i here told asked mine, or-true, t) refl
 
-    pub invalid-skip : (d < 128 → ⊥) → X ≡ invalidAhead some (i + 1)
-    invalid-skip none = so-far ∙ rw (other-ahead l o i here told none) refl
+    pub invalid-skip : r ≡ false → X ≡ invalidAhead some (i + 1)
+    invalid-skip other = so-far ∙ rw (other-ahead l o i here told asked other) refl
 
-    pub invalid-stop : d < 128 → invalidIn s (laidAt l d) ≡ false → false ≡ X
+    pub invalid-stop : r ≡ true → invalidIn s (laidAt l d) ≡ false → false ≡ X
     unfolding allOf
-    invalid-stop small t = sym (so-far ∙ rw (own-ahead l o i here told small, or-true, t) refl)
+    invalid-stop mine t = sym (so-far ∙ rw (own-ahead l o i here told asked mine, or-true, t) refl)
 
   pub invalid-end : (i : ℕ) {some X : Bool} → endPlace l o ≤ i → X ≡ invalidAhead some i → some ≡ X
   unfolding allOf
@@ -207,14 +195,15 @@ module _ (c : Change) (o : Owner) where
       rw (first-ahead (n .layout) o)
       (ap (withStages (n .state)) (moved-all (stageAfter c) (after-twice c) (cellsOf (n .layout) o) (n .state .stages)))
 
-  module _ (n : Node) (i : ℕ) (here : i < endPlace (n .layout) o) {d : ℕ} (told : d ≡ ownCell (n .layout) o i) where
-    pub move-turn : {after : Node} → d < 128 → after ≡ nodeWith n (withStage (n .state) d (stageAfter c (stageAt (n .state) d)))
+  module _ (n : Node) (i : ℕ) (here : i < endPlace (n .layout) o) {d : ℕ} (told : d ≡ cellAt (n .layout) o i) {r : Bool}
+      (asked : r ≡ owns (n .layout) o d) where
+    pub move-turn : {after : Node} → r ≡ true → after ≡ nodeWith n (withStage (n .state) d (stageAfter c (stageAt (n .state) d)))
         → nodeWith after (movedAhead after (i + 1)) ≡ nodeWith n (movedAhead n i)
     unfolding movedAll
-    move-turn small put = rw (put, own-ahead (n .layout) o i here told small) refl
+    move-turn mine put = rw (put, own-ahead (n .layout) o i here told asked mine) refl
 
-    pub move-skip : (d < 128 → ⊥) → movedAhead n (i + 1) ≡ movedAhead n i
-    move-skip none = rw (other-ahead (n .layout) o i here told none) refl
+    pub move-skip : r ≡ false → movedAhead n (i + 1) ≡ movedAhead n i
+    move-skip other = rw (other-ahead (n .layout) o i here told asked other) refl
 
   pub move-end : (n : Node) (i : ℕ) → endPlace (n .layout) o ≤ i → movedAhead n i ≡ n .state
   unfolding movedAll

@@ -38,8 +38,8 @@ use Rattle.store.specs.Node.{
 use Rattle.message.specs.declared.Change.{Change}
 use Rattle.message.specs.Messages.{canHold, offered, invalidated}
 use Rattle.message.specs.Fields.{stageAfter, isGone, writes}
-use Rattle.node.specs.declared.Owner.{Owner}
-use Rattle.node.specs.Own.{changed, isIn, cellsOf, fieldsOf}
+use Rattle.own.specs.declared.Owner.{Owner}
+use Rattle.own.specs.Own.{changed, isIn, cellsOf, fieldsOf}
 
 -- ---- outcomes
 

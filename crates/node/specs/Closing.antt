@@ -32,8 +32,8 @@ use Rattle.store.specs.Node.{
 }
 use Rattle.message.specs.Messages.{settled}
 use Rattle.message.specs.Fields.{statusPlaces}
-use Rattle.node.specs.declared.Owner.{Owner}
-use Rattle.node.specs.Own.{chosen, changed, fieldsOf}
+use Rattle.own.specs.declared.Owner.{Owner}
+use Rattle.own.specs.Own.{chosen, changed, fieldsOf}
 
 -- ---- a field this round
 

@@ -1,4 +1,3 @@
-pub mod Own
 pub mod Calls
 pub mod Closing
 pub mod Load

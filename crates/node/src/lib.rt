@@ -3,8 +3,8 @@ ghost use mathlib.Core.Path.{_≡_};
 ghost use Prim.Native.Nat.{_<_, _≤_, min};
 ghost use lib.ListN.{length, take};
 ghost use Rattle.whole.specs.Whole.{allOf};
-ghost use Rattle.store.specs.Node.{nodeSize, layoutOf, stateOf, nodeOf, countsOf, messageAt, stateAt, nodeWith};
-ghost use Rattle.node.specs.Own.{placesOf, cellAt, InMemory, names, ownCell, cellsOf, fieldsOf};
+ghost use Rattle.store.specs.Node.{nodeSize, layoutOf, stateOf, nodeOf, messageAt, stateAt, nodeWith};
+ghost use Rattle.own.specs.Own.{placesOf, cellsOf, fieldsOf};
 ghost use Rattle.node.specs.Calls.{
   left,
   outcome,
@@ -31,105 +31,27 @@ ghost use Rattle.node.specs.Calls.{
 };
 ghost use Rattle.node.specs.Closing.{came, statusSet, counts, valueIn, instances, noneCame, closedState, closeMessages, forget, closeOf};
 ghost use Rattle.node.specs.Load.{loadOf};
-use layout::Counts;
 use layout::Verdict;
 use message::Change;
+use own::Owner;
+use own::Places;
 use record::Field;
 use store::Frame;
 use store::Message;
 use store::MessageState;
 
-// Whose fields: a message's or a frame's.
-pub enum Owner {
-    Message(u8),
-    Frame(u8),
-}
-
-// The places where an owner's fields are found: from .. end.
-pub struct Places {
-    pub from: usize,
-    pub end: usize,
-}
-
 // ---- an owner's fields
-
-fn least(a: usize, b: usize) -> usize
-    ensures { λ r. ⌜ r ≡ min a b ⌝ }
-{
-    if a <= b { a } else { b }
-}
-
-fn own_places(node: &[u8], owner: Owner) -> Places
-    requires { ⌜ (InMemory owner) × (length (now node) ≡ nodeSize) ⌝ }
-    ensures { λ r. ⌜ (r ≡ placesOf (layoutOf (now (node .entry))) owner) × (r .end ≤ 128) ⌝ }
-{
-    match owner {
-        Owner::Message(m) => {
-            let g = store::message_at(node, m as usize);
-            let from = g.first as usize;
-            let fields = store::counts(node).fields;
-            Places {
-                from,
-                end: least(fields, from + least(g.fields as usize, 8)),
-            }
-        }
-        Owner::Frame(f) => {
-            let h = store::frame_at(node, f as usize);
-            let from = h.first as usize;
-            Places {
-                from,
-                end: least(128, from + least(h.fields as usize, 32)),
-            }
-        }
-    }
-}
-
-// The cell that a place gives.
-fn cell_at(node: &[u8], owner: Owner, i: usize) -> usize
-    requires { ⌜ (i < 128) × (length (now node) ≡ nodeSize) ⌝ }
-    ensures { λ r. ⌜ r ≡ cellAt (layoutOf (now (node .entry))) owner i ⌝ }
-{
-    match owner {
-        Owner::Message(_) => i,
-        Owner::Frame(_) => store::listed_at(node, i) as usize,
-    }
-}
-
-fn is_named(owner: Owner, x: Field) -> bool
-    ensures { λ r. ⌜ r ≡ names owner x ⌝ }
-{
-    match owner {
-        Owner::Message(m) => x.message == m,
-        Owner::Frame(f) => x.frame == f,
-    }
-}
-
-// The cell at a place if it is the owner's, or 128.
-fn own_cell(node: &[u8], c: Counts, owner: Owner, i: usize) -> usize
-    requires { ⌜ (i < 128) × (c ≡ countsOf (layoutOf (now node))) × (length (now node) ≡ nodeSize) ⌝ }
-    ensures { λ r. ⌜ r ≡ ownCell (layoutOf (now (node .entry))) owner i ⌝ }
-{
-    let d = cell_at(node, owner, i);
-    if c.fields <= d {
-        return 128;
-    }
-    if is_named(owner, store::laid_at(node, d)) {
-        return d;
-    }
-    128
-}
 
 // An owner's fields, which are at those places, move on; the other cells stay.
 fn move_fields(node: &mut [u8], owner: Owner, own: Places, change: Change)
     requires { ⌜ (own ≡ placesOf (layoutOf (now node)) owner) × (length (now node) ≡ nodeSize) ⌝ }
     ensures { λ _. ⌜ nodeOf (now (node .exit)) ≡ nodeWith (nodeOf (now (node .entry))) (moved change owner (nodeOf (now (node .entry)))) ⌝ }
 {
-    let c = store::counts(&node[..]);
     let from = own.from;
     let end = own.end;
     for i in from..end {
-        let d = own_cell(&node[..], c, owner, i);
-        if d < 128 {
+        let d = own::cell_at(&node[..], owner, i);
+        if own::owns(&node[..], owner, d) {
             let x = store::field_at(&node[..], d);
             store::put_stage(&mut *node, d, message::stage_after(change, x));
         }
@@ -142,7 +64,7 @@ fn send_answer(node: &[u8], message: u64, value: i64) -> u8
     requires { ⌜ length (now node) ≡ nodeSize ⌝ }
     ensures { λ r. ⌜ r ≡ sendAnswer (layoutOf (now (node .entry))) message value ⌝ }
 {
-    if (store::counts(node).messages as u64) <= message {
+    if !store::has_message(node, message) {
         return 16;
     }
     let g = store::message_at(node, message as usize);
@@ -163,12 +85,12 @@ pub fn send(node: &mut [u8], message: u64, value: i64) -> u8
     if answer != 0 {
         return answer;
     }
+    let owner = Owner::Message(message as u8);
+    let own = own::places_of(&node[..], owner);
+    move_fields(&mut *node, owner, own, Change::Send);
     let m = message as usize;
     let g = store::message_at(&node[..], m);
     let s = store::state_at(&node[..], m);
-    let owner = Owner::Message(message as u8);
-    let own = own_places(&node[..], owner);
-    move_fields(&mut *node, owner, own, Change::Send);
     store::put_state(node, m, message::offered_state(g, s, value));
     0
 }
@@ -179,7 +101,7 @@ fn invalidate_answer(node: &[u8], message: u64) -> u8
     requires { ⌜ length (now node) ≡ nodeSize ⌝ }
     ensures { λ r. ⌜ r ≡ invalidateAnswer (layoutOf (now (node .entry))) message ⌝ }
 {
-    if (store::counts(node).messages as u64) <= message {
+    if !store::has_message(node, message) {
         return 16;
     }
     let g = store::message_at(node, message as usize);
@@ -234,15 +156,14 @@ fn all_invalid(node: &[u8], frame: u8) -> bool
     requires { ⌜ (frame < 32) × (length (now node) ≡ nodeSize) ⌝ }
     ensures { λ r. ⌜ r ≡ allInvalid (stateOf (now (node .entry))) (fieldsOf (layoutOf (now (node .entry))) (Owner.Frame frame)) ⌝ }
 {
-    let c = store::counts(node);
     let owner = Owner::Frame(frame);
-    let own = own_places(node, owner);
+    let own = own::places_of(node, owner);
     let from = own.from;
     let end = own.end;
     let mut some = false;
     for i in from..end {
-        let d = own_cell(node, c, owner, i);
-        if d < 128 {
+        let d = own::cell_at(node, owner, i);
+        if own::owns(node, owner, d) {
             let s = its_state(node, store::laid_at(node, d));
             if !(s.valid == 0) {
                 return false;
@@ -268,7 +189,7 @@ fn assemble_answer(node: &[u8], frame: u64, size: usize) -> u8
     requires { ⌜ length (now node) ≡ nodeSize ⌝ }
     ensures { λ r. ⌜ r ≡ assembleAnswer (nodeOf (now (node .entry))) frame size ⌝ }
 {
-    if (store::counts(node).frames as u64) <= frame {
+    if !store::has_frame(node, frame) {
         return 16;
     }
     let h = store::frame_at(node, frame as usize);
@@ -289,14 +210,13 @@ fn load_fields(node: &mut [u8], frame: u8, h: Frame, buffer: &mut [u8])
     requires { ⌜ (frame < 32) × (length (now node) ≡ nodeSize) ⌝ }
     ensures { λ _. ⌜ (nodeOf (now (node .exit)) ≡ nodeWith (nodeOf (now (node .entry))) (moved Change.Load (Owner.Frame frame) (nodeOf (now (node .entry))))) × (now (buffer .exit) ≡ written (nodeOf (now (node .entry))) h (fieldsOf (layoutOf (now (node .entry))) (Owner.Frame frame)) (now (buffer .entry))) ⌝ }
 {
-    let c = store::counts(&node[..]);
     let owner = Owner::Frame(frame);
-    let own = own_places(&node[..], owner);
+    let own = own::places_of(&node[..], owner);
     let from = own.from;
     let end = own.end;
     for i in from..end {
-        let d = own_cell(&node[..], c, owner, i);
-        if d < 128 {
+        let d = own::cell_at(&node[..], owner, i);
+        if own::owns(&node[..], owner, d) {
             let x = store::laid_at(&node[..], d);
             message::write_field(
                 &mut *buffer,
@@ -331,7 +251,7 @@ fn consumed_answer(node: &[u8], frame: u64) -> u8
     requires { ⌜ length (now node) ≡ nodeSize ⌝ }
     ensures { λ r. ⌜ r ≡ consumedAnswer (layoutOf (now (node .entry))) frame ⌝ }
 {
-    if (store::counts(node).frames as u64) <= frame {
+    if !store::has_frame(node, frame) {
         return 16;
     }
     let h = store::frame_at(node, frame as usize);
@@ -350,7 +270,7 @@ pub fn consumed(node: &mut [u8], frame: u64) -> u8
         return answer;
     }
     let owner = Owner::Frame(frame as u8);
-    let own = own_places(&node[..], owner);
+    let own = own::places_of(&node[..], owner);
     move_fields(node, owner, own, Change::Consume);
     0
 }
@@ -361,14 +281,13 @@ fn all_gone(node: &[u8], message: u8) -> bool
     requires { ⌜ (message < 32) × (length (now node) ≡ nodeSize) ⌝ }
     ensures { λ r. ⌜ r ≡ allOf (goneAt (stateOf (now (node .entry)))) (cellsOf (layoutOf (now (node .entry))) (Owner.Message message)) ⌝ }
 {
-    let c = store::counts(node);
     let owner = Owner::Message(message);
-    let own = own_places(node, owner);
+    let own = own::places_of(node, owner);
     let from = own.from;
     let end = own.end;
     for i in from..end {
-        let d = own_cell(node, c, owner, i);
-        if d < 128 {
+        let d = own::cell_at(node, owner, i);
+        if own::owns(node, owner, d) {
             if !message::is_gone(store::field_at(node, d)) {
                 return false;
             }
@@ -381,7 +300,7 @@ fn flag_answer(node: &[u8], message: u64) -> u8
     requires { ⌜ length (now node) ≡ nodeSize ⌝ }
     ensures { λ r. ⌜ r ≡ flagAnswer (layoutOf (now (node .entry))) message ⌝ }
 {
-    if (store::counts(node).messages as u64) <= message {
+    if !store::has_message(node, message) {
         return 16;
     }
     let g = store::message_at(node, message as usize);
@@ -409,7 +328,7 @@ fn deliver_answer(node: &[u8], frame: u64, size: usize) -> u8
     requires { ⌜ length (now node) ≡ nodeSize ⌝ }
     ensures { λ r. ⌜ r ≡ deliverAnswer (layoutOf (now (node .entry))) frame size ⌝ }
 {
-    if (store::counts(node).frames as u64) <= frame {
+    if !store::has_frame(node, frame) {
         return 16;
     }
     let h = store::frame_at(node, frame as usize);
@@ -420,6 +339,12 @@ fn deliver_answer(node: &[u8], frame: u64, size: usize) -> u8
         return 18;
     }
     0
+}
+
+fn least(a: usize, b: usize) -> usize
+    ensures { λ r. ⌜ r ≡ min a b ⌝ }
+{
+    if a <= b { a } else { b }
 }
 
 // Of a frame that is longer than the memory has room for, which no layout has, the first 32 bytes are kept.
@@ -446,7 +371,7 @@ fn receive_answer(node: &[u8], message: u64) -> u8
     requires { ⌜ length (now node) ≡ nodeSize ⌝ }
     ensures { λ r. ⌜ r ≡ receiveAnswer (nodeOf (now (node .entry))) message ⌝ }
 {
-    if (store::counts(node).messages as u64) <= message {
+    if !store::has_message(node, message) {
         return 16;
     }
     let g = store::message_at(node, message as usize);
@@ -523,16 +448,15 @@ fn gather(node: &[u8], message: u8, values: &mut [i64; 8]) -> usize
     requires { ⌜ (message < 32) × (length (now values) ≡ 8) × (length (now node) ≡ nodeSize) ⌝ }
     ensures { λ r. ⌜ (r ≤ 8) × (length (now (values .exit)) ≡ 8) × (take r (now (values .exit)) ≡ instances (nodeOf (now (node .entry))) message) ⌝ }
 {
-    let c = store::counts(node);
     let owner = Owner::Message(message);
     let g = store::message_at(node, message as usize);
-    let own = own_places(node, owner);
+    let own = own::places_of(node, owner);
     let from = own.from;
     let end = own.end;
     let mut n = 0;
     for i in from..end {
-        let d = own_cell(node, c, owner, i);
-        if d < 128 {
+        let d = own::cell_at(node, owner, i);
+        if own::owns(node, owner, d) {
             let x = store::laid_at(node, d);
             if does_count(node, x) {
                 values[n] = value_in(node, g, x);
@@ -547,14 +471,13 @@ fn did_none_come(node: &[u8], message: u8) -> bool
     requires { ⌜ (message < 32) × (length (now node) ≡ nodeSize) ⌝ }
     ensures { λ r. ⌜ r ≡ noneCame (nodeOf (now (node .entry))) message ⌝ }
 {
-    let c = store::counts(node);
     let owner = Owner::Message(message);
-    let own = own_places(node, owner);
+    let own = own::places_of(node, owner);
     let from = own.from;
     let end = own.end;
     for i in from..end {
-        let d = own_cell(node, c, owner, i);
-        if d < 128 {
+        let d = own::cell_at(node, owner, i);
+        if own::owns(node, owner, d) {
             if did_come(node, store::laid_at(node, d)) {
                 return false;
             }

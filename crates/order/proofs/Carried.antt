@@ -11,10 +11,10 @@ use borrow.Author.Tests.{eqb-true, eq-eqb, not-true}
 use Rattle.whole.specs.Whole.{allOf}
 use Rattle.record.specs.declared.Field.{Field as FieldRecord}
 use Rattle.store.specs.Node.{Layout, laidAt}
-use Rattle.node.specs.declared.Owner.{Owner}
-use Rattle.node.specs.Own.{isIn, cellsOf, fieldsOf}
-use Rattle.node.specs.Sound.{SoundLayout}
-use Rattle.node.proofs.Owners.{fields-named}
+use Rattle.own.specs.declared.Owner.{Owner}
+use Rattle.own.specs.Own.{isIn, cellsOf, fieldsOf}
+use Rattle.own.specs.SoundLayout.{SoundLayout}
+use Rattle.own.proofs.Owners.{fields-named}
 use Rattle.order.specs.Order.{someOf, carries}
 use Rattle.order.proofs.Chosen.{all-in, some-field}
 

@@ -7,9 +7,9 @@ use Prim.Native.Nat.{ℕ}
 use lib.Dec.{eqb}
 use borrow.Author.Tests.{eqb-true, eqb-false, eq-eqb, ne-eqb}
 use Rattle.store.specs.Node.{Layout, laidAt}
-use Rattle.node.specs.declared.Owner.{Owner}
-use Rattle.node.specs.Own.{isIn, cellsOf}
-use Rattle.node.proofs.Owners.{cell-names}
+use Rattle.own.specs.declared.Owner.{Owner}
+use Rattle.own.specs.Own.{isIn, cellsOf}
+use Rattle.own.proofs.Owners.{cell-names}
 use Rattle.order.specs.Order.{Name, message, frame, all, carries, linked}
 use Rattle.order.proofs.Carried.{carrying}
 

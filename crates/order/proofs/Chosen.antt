@@ -13,10 +13,10 @@ use borrow.Author.Tests.{not-true, not-false}
 use Rattle.whole.specs.Whole.{allOf}
 use Rattle.record.specs.declared.Field.{Field as FieldRecord}
 use Rattle.store.specs.Node.{Layout, laidAt}
-use Rattle.node.specs.declared.Owner.{Owner}
-use Rattle.node.specs.Own.{chosen, isIn, cellsOf, fieldsOf}
-use Rattle.node.proofs.Lists.{by-test, same-test, Every, every-map, every-in, every-number}
-use Rattle.node.proofs.Tables.{all-map}
+use Rattle.own.specs.declared.Owner.{Owner}
+use Rattle.own.specs.Own.{chosen, isIn, cellsOf, fieldsOf}
+use Rattle.own.proofs.Lists.{by-test, same-test, Every, every-map, every-in, every-number}
+use Rattle.own.proofs.Tables.{all-map}
 
 -- ---- two tests
 

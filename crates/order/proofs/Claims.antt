@@ -1,7 +1,6 @@
 -- The theorems on all calls together, each from the file that proves it.
 -- Assumes nothing.
 use Rattle.node.proofs.Closed.{delivery-closed}
-use Rattle.node.proofs.Owners.{fields-named}
 use Rattle.order.specs.Claims.{Claims}
 use Rattle.order.proofs.OrderOfCalls.{order-of-calls}
 use Rattle.order.proofs.Once.{once}
@@ -19,7 +18,6 @@ claims =
       order-of-calls = order-of-calls;
       once = once;
       layout-kept = layout-kept;
-      own-fields = λ n s. fields-named (s .layout);
       own-bits = λ n n′ s s′. own-bits s s′;
       own-values = λ n n′ s s′. own-values s s′;
       each-round = λ n n′ s s′. each-round s s′;

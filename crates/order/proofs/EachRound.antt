@@ -23,11 +23,12 @@ use Rattle.message.specs.Fields.{writes}
 use Rattle.node.specs.Calls.{outcome, sendAnswer, sendOf, invalidateAnswer, invalidateOf, suppressed, assembleAnswer, written, assembleOf, assembled}
 use Rattle.node.specs.Calls.{consumedAnswer, consumedOf, flagOf, flagPlace, deliverAnswer, kept, deliverOf, receiveAnswer, receivedPlace}
 use Rattle.node.specs.Closing.{came, closeMessages, forget, closeOf}
-use Rattle.node.specs.Sound.{Sound, messagePlaces, itsStatusPlaces}
+use Rattle.own.specs.SoundLayout.{messagePlaces, itsStatusPlaces}
+use Rattle.node.specs.Sound.{Sound}
 use Rattle.node.proofs.Answers.{deliver-tests}
 use Rattle.node.proofs.Closed.{delivery-closed}
 use Rattle.node.proofs.Delivered.{kept-data}
-use Rattle.node.proofs.Lists.{same-test}
+use Rattle.own.proofs.Lists.{same-test}
 use Rattle.order.specs.Runs.{Call, send, invalidate, assemble, consumed, readFlag, deliver, close, receive, seenOf, next, final}
 use Rattle.order.specs.Own.{SameOwn, SameRound, seens}
 use Rattle.order.proofs.Kept.{kept-sound}

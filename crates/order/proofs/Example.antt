@@ -12,7 +12,7 @@ use Rattle.store.specs.Node.{Layout}
 use Rattle.store.specs.Start.{table}
 use Rattle.message.specs.Messages.{canHold, passesNow, put, offered}
 use Rattle.message.specs.Fields.{statusPlaces, writes}
-use Rattle.node.specs.Own.{chosen, owns, cellsOf}
+use Rattle.own.specs.Own.{chosen, owns, cellsOf}
 use Rattle.node.specs.Calls.{sendAnswer, sendOf, suppressed, assembleAnswer, written, assembleOf, assembled}
 use Rattle.order.specs.Runs.{buffer, seenOf, next}
 use Rattle.order.specs.Order.{someOf, dependent, Numbered, In, there, Before, Distinct, Reordered}

@@ -11,10 +11,11 @@ use lib.IntN.{ℤ}
 use borrow.Author.Tests.{lt-ltb}
 use Rattle.whole.specs.Whole.{allOf}
 use Rattle.store.specs.Node.{Layout, Node, messageCount, messageAt, laidAt}
-use Rattle.node.specs.declared.Owner.{Owner}
-use Rattle.node.specs.Own.{cellsOf}
+use Rattle.own.specs.declared.Owner.{Owner}
+use Rattle.own.specs.Own.{cellsOf}
 use Rattle.node.specs.Calls.{sendAnswer, sendOf, flagAnswer, goneAt, flagOf, flagPlace}
-use Rattle.node.specs.Sound.{SoundLayout, Sound}
+use Rattle.own.specs.SoundLayout.{SoundLayout}
+use Rattle.node.specs.Sound.{Sound}
 use Rattle.node.proofs.Answers.{send-tests, send-access}
 use Rattle.order.specs.Runs.{Call, send, readFlag, Seen, answerOf, seenOf, next, final}
 use Rattle.order.specs.Flag.{Sent, GoesOut, AllOut, shows}

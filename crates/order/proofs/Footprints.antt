@@ -19,11 +19,11 @@ use Rattle.store.specs.Node.{Layout, Delivery, State, Node, isValid, messageAt,
 use Rattle.message.specs.declared.Change.{Change}
 use Rattle.message.specs.Messages.{offered, invalidated}
 use Rattle.message.specs.Fields.{stageAfter, isGone, writes as writesInto}
-use Rattle.node.specs.declared.Owner.{Owner}
-use Rattle.node.specs.Own.{changed, cellsOf, fieldsOf}
+use Rattle.own.specs.declared.Owner.{Owner}
+use Rattle.own.specs.Own.{changed, cellsOf, fieldsOf}
 use Rattle.node.specs.Calls.{sendOf, invalidateOf, invalidIn, suppressed, assembleAnswer, written, assembleOf, assembled, consumedOf}
 use Rattle.node.specs.Calls.{goneAt, flagOf, flagPlace, kept, deliverOf, receiveAnswer, receivedPlace}
-use Rattle.node.proofs.Lists.{changed-length, changed-at, Every, every-more, every-number}
+use Rattle.own.proofs.Lists.{changed-length, changed-at, Every, every-more, every-number}
 use Rattle.order.specs.Runs.{Call, send, invalidate, assemble, consumed, readFlag, deliver, close, receive}
 use Rattle.order.specs.Runs.{Seen, buffer, answerOf, seenOf, next}
 use Rattle.order.specs.Order.{Name, message, frame, nameOf, linked, dependent}

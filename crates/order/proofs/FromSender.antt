@@ -23,8 +23,8 @@ use Rattle.store.specs.Node.{Node, messageCount, isSent, isFloat, heldValue, fr
 use Rattle.message.specs.Messages.{canHold, passesNow, put, filtered, agreedOn, settled}
 use Rattle.message.proofs.Held.{held-finite, picked}
 use Rattle.message.specs.Fields.{statusPlaces}
-use Rattle.node.specs.declared.Owner.{Owner}
-use Rattle.node.specs.Own.{chosen, isIn, cellsOf, fieldsOf}
+use Rattle.own.specs.declared.Owner.{Owner}
+use Rattle.own.specs.Own.{chosen, isIn, cellsOf, fieldsOf}
 use Rattle.node.specs.Calls.{assembleAnswer, assembleOf, assembled, receiveAnswer, receivedPlace}
 use Rattle.node.specs.Closing.{came, statusSet, counts, valueIn, instances, noneCame, closedState, isReceived, closeOf}
 use Rattle.node.specs.Sound.{Sound}
@@ -33,9 +33,9 @@ use Rattle.node.proofs.Closed.{state-closed}
 use Rattle.node.proofs.Delivered.{data-length}
 use Rattle.node.proofs.Instances.{instances-few}
 use Rattle.node.proofs.Kept.{pattern-held}
-use Rattle.node.proofs.Lists.{Every, chosen-each}
+use Rattle.own.proofs.Lists.{Every, chosen-each}
 use Rattle.node.proofs.Meaning.{held-stands, status-stands}
-use Rattle.node.proofs.Owners.{fields-named}
+use Rattle.own.proofs.Owners.{fields-named}
 use Rattle.node.proofs.Rounds.{closed-none}
 use Rattle.order.specs.Runs.{close, receive, value, seenOf, next}
 use Rattle.order.specs.Mirror.{Mirrors, goesValid, Holds, FromSender}

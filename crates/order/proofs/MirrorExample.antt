@@ -12,8 +12,8 @@ use Rattle.packing.specs.Values.{isWidth, least, greatest, inRange, extend, ext
 use Rattle.filter.specs.Filter.{rules, passes}
 use Rattle.record.specs.Numbers.{tally, anyBelow, leastBelow}
 use Rattle.record.specs.Records.{byteAt, wordAt, isFrame, isMessage, isField, frameAt, messageAt, fieldAt}
-use Rattle.record.specs.Ranges.{wrongIf, wordFits, wordFinding, frameFinding, messageFinding, fieldFinding}
-use Rattle.record.specs.Ranges.{findingOf, findingAt, wrongAt, lowestFault, rangeFault}
+use Rattle.ranges.specs.Ranges.{wrongIf, wordFits, wordFinding, frameFinding, messageFinding, fieldFinding}
+use Rattle.ranges.specs.Ranges.{findingOf, findingAt, wrongAt, lowestFault, rangeFault}
 use Rattle.record.specs.Runs.{pastEnd, meet}
 use Rattle.layout.specs.Counts.{countsBefore}
 use Rattle.layout.specs.Verdict.{
@@ -54,7 +54,7 @@ use Rattle.store.specs.Start.{
   startOf,
 }
 use Rattle.message.specs.Messages.{canHold, passesNow}
-use Rattle.node.specs.Own.{chosen, owns, cellsOf}
+use Rattle.own.specs.Own.{chosen, owns, cellsOf}
 use Rattle.node.specs.Calls.{sendAnswer, sendOf, suppressed, assembleAnswer, assembleOf, assembled}
 use Rattle.node.specs.Closing.{came, noneCame}
 use Rattle.node.specs.Load.{loadOf}

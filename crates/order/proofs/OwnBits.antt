@@ -18,15 +18,16 @@ use Rattle.store.specs.declared.Message.{Message}
 use Rattle.store.specs.declared.MessageState.{MessageState}
 use Rattle.store.specs.Node.{Layout, State, Node, messageCount, isSent, frameAt, messageAt, laidAt, stateAt, dataAt, nodeWith}
 use Rattle.message.specs.Messages.{passesNow, put, filtered, agreedBy, agreedOn, settled}
-use Rattle.node.specs.declared.Owner.{Owner}
-use Rattle.node.specs.Own.{isIn, cellsOf}
+use Rattle.own.specs.declared.Owner.{Owner}
+use Rattle.own.specs.Own.{isIn, cellsOf}
 use Rattle.node.specs.Calls.{receiveAnswer, receivedPlace}
 use Rattle.node.specs.Closing.{came, statusSet, counts, valueIn, instances, noneCame, closedState, isReceived, closeOf}
-use Rattle.node.specs.Sound.{SoundLayout, Sound, messagePlaces, itsStatusPlaces}
+use Rattle.own.specs.SoundLayout.{SoundLayout, messagePlaces, itsStatusPlaces}
+use Rattle.node.specs.Sound.{Sound}
 use Rattle.node.proofs.Closed.{state-closed}
 use Rattle.node.proofs.Delivered.{data-length}
-use Rattle.node.proofs.Lists.{same-test}
-use Rattle.node.proofs.Owners.{cell-names, fields-named}
+use Rattle.own.proofs.Lists.{same-test}
+use Rattle.own.proofs.Owners.{cell-names, fields-named}
 use Rattle.order.specs.Runs.{close, receive, seenOf, next}
 use Rattle.order.specs.Own.{SameValues, SameInstance, SameOwn}
 use Rattle.order.proofs.Chosen.{all-alike, chosen-alike, each-field}

@@ -17,14 +17,14 @@ use Rattle.store.specs.declared.Stage.the-variants.{Waiting, Loaded, Gone}
 use Rattle.store.specs.Node.{State, Node, laidAt, stageAt, noStage}
 use Rattle.message.specs.declared.Change.{Change}
 use Rattle.message.specs.Fields.{stageAfter, isGone}
-use Rattle.node.specs.declared.Owner.{Owner}
-use Rattle.node.specs.Own.{isIn, names, cellsOf}
+use Rattle.own.specs.declared.Owner.{Owner}
+use Rattle.own.specs.Own.{isIn, names, cellsOf}
 use Rattle.node.specs.Calls.{outcome, moved, sendAnswer, sendOf, invalidateAnswer, invalidateOf}
 use Rattle.node.specs.Calls.{assembleAnswer, assembleOf, consumedAnswer, consumedOf, goneAt, deliverAnswer, deliverOf}
 use Rattle.node.specs.Closing.{closeMessages, forget, closeOf}
 use Rattle.node.specs.Sound.{Sound}
-use Rattle.node.proofs.Lists.{by-test, changed-at}
-use Rattle.node.proofs.Owners.{fields-named}
+use Rattle.own.proofs.Lists.{by-test, changed-at}
+use Rattle.own.proofs.Owners.{fields-named}
 use Rattle.order.specs.Runs.{Call, send, invalidate, assemble, consumed, readFlag, deliver, close, receive, answerOf, next, final}
 use Rattle.order.specs.Order.{In, here, there, first, later}
 use Rattle.order.specs.Flag.{Answered, withAnswer, done, answered, Sent, GoesOut}

@@ -17,7 +17,7 @@ use Rattle.store.specs.declared.Message.{Message}
 use Rattle.store.specs.Node.{Delivery, Node, frameCount, hasStatusBit, isSentFrame, heldValue, noDelivery, noState}
 use Rattle.store.specs.Node.{frameAt, messageAt, laidAt, deliveryAt, stateAt, withDelivery, nodeWith}
 use Rattle.message.specs.Messages.{passesNow, put, offered, invalidated}
-use Rattle.node.specs.declared.Owner.{Owner}
+use Rattle.own.specs.declared.Owner.{Owner}
 use Rattle.node.specs.Calls.{sendOf, invalidateOf}
 use Rattle.node.specs.Calls.{assembleAnswer, assembleOf, assembled, deliverAnswer, kept, deliverOf}
 use Rattle.node.specs.Closing.{came, noneCame}
@@ -26,7 +26,7 @@ use Rattle.node.proofs.Answers.{send-tests, send-access, invalidate-tests, inva
 use Rattle.node.proofs.Delivered.{kept-data}
 use Rattle.node.proofs.Kept.{pattern-held}
 use Rattle.node.proofs.Meaning.{assembled-length}
-use Rattle.node.proofs.Owners.{fields-named}
+use Rattle.own.proofs.Owners.{fields-named}
 use Rattle.order.specs.Runs.{send, invalidate, assemble, deliver, close, receive, value, answerOf, seenOf, next, final}
 use Rattle.order.specs.Order.{carries}
 use Rattle.order.specs.Mirror.{Mirrors, goesValid, Holds, FromSender}

@@ -14,10 +14,8 @@ use Rattle.layout.specs.Numbers.{numberOf, byteOf}
 use Rattle.layout.specs.Verdict.{verdict}
 use Rattle.layout.specs.declared.Refusal.{Refusal}
 use Rattle.layout.specs.declared.Verdict.{Verdict}
-use Rattle.store.specs.Node.{Node, isSent, isFloat, layoutSize, nodeOf, messageAt, laidAt, deliveryAt, stateAt, noDelivery}
+use Rattle.store.specs.Node.{Node, isSent, isFloat, layoutSize, nodeOf, messageAt, deliveryAt, stateAt, noDelivery}
 use Rattle.message.specs.Messages.{passesNow, agreedBy}
-use Rattle.node.specs.declared.Owner.{Owner}
-use Rattle.node.specs.Own.{names, isIn, cellsOf}
 use Rattle.node.specs.Calls.{left, assembled}
 use Rattle.node.specs.Closing.{instances, noneCame}
 use Rattle.node.specs.Load.{loadOf}
@@ -40,9 +38,6 @@ pub record Claims : Type 0 where
   pub once : Once
   -- The layout part. No call but a load changes a byte of it
   pub layout-kept : (b : List ℕ) (c : Call) (s : Seen) (e : List ℕ) → Memory b → Memory e → Does b c s e → take layoutSize e ≡ take layoutSize b
-  -- A message's fields and a frame's fields. The cells that a call on either goes through are exactly those that name it
-  pub own-fields : (n : Node) → Sound n → (o : Owner) (d : ℕ)
-      → (isIn d (cellsOf (n .layout) o) ≡ true) ↔ ((d < n .layout .field-number) × (names o (laidAt (n .layout) d) ≡ true))
   -- Own bits alone. What a message shows depends on the layout, its earlier values, which of its frames came validly, and its own field and status
   -- bits; on no other bit of any frame. The same holds of the values that the next closing finds
   pub own-bits : (n n′ : Node) → Sound n → Sound n′ → (m : ℕ) → SameOwn n n′ m → (p : ℤ)

@@ -8,8 +8,8 @@ use Rattle.store.specs.declared.Frame.{Frame}
 use Rattle.store.specs.declared.Message.{Message}
 use Rattle.store.specs.declared.MessageState.{MessageState}
 use Rattle.store.specs.Node.{Layout, Node, isSent, isValid, hasStatusBit, isSentFrame, dataAt, frameAt, messageAt, laidAt}
-use Rattle.node.specs.declared.Owner.{Owner}
-use Rattle.node.specs.Own.{isIn, cellsOf}
+use Rattle.own.specs.declared.Owner.{Owner}
+use Rattle.own.specs.Own.{isIn, cellsOf}
 use Rattle.node.specs.Calls.{assembled}
 use Rattle.node.specs.Closing.{came}
 use Rattle.order.specs.Runs.{assemble, answerOf}

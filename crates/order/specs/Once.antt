@@ -3,8 +3,8 @@
 use mathlib.Core.Path.{_≡_}
 use mathlib.Core.Bool.{Bool}
 use mathlib.Core.List.{List}
-use Prim.Native.Nat.{ℕ, min}
-use lib.Dec.{T}
+use Prim.Native.Nat.{ℕ, _≤_, min}
+use lib.Dec.{T, ltb}
 use lib.Ieee.{binary32, fits}
 use lib.IntN.{ℤ}
 use lib.ListN.{length, take}
@@ -20,13 +20,13 @@ use Rattle.agreement.specs.Floats.{floatsAgreed}
 use Rattle.agreement.specs.declared.Agreed.{Agreed}
 use Rattle.filter.specs.Filter.{passes}
 use Rattle.record.specs.Records.{byteAt, frameAt as frameRecord, messageAt as messageRecord, fieldAt as fieldRecord, recordAt, pairBelow}
-use Rattle.record.specs.Ranges.{rangeFault}
+use Rattle.ranges.specs.Ranges.{rangeFault}
 use Rattle.record.specs.Runs.{messageRun, statusRun, pastEnd, meet, clash}
 use Rattle.record.specs.declared.Frame.{Frame as FrameRecord}
 use Rattle.record.specs.declared.Message.{Message as MessageRecord}
 use Rattle.record.specs.declared.Field.{Field as FieldRecord}
 use Rattle.record.specs.declared.Record.{Record}
-use Rattle.record.specs.declared.RangeFault.{RangeFault}
+use Rattle.ranges.specs.declared.RangeFault.{RangeFault}
 use Rattle.record.specs.declared.Run.{Run}
 use Rattle.layout.specs.Numbers.{numberOf, byteOf}
 use Rattle.layout.specs.Verdict.{verdict}
@@ -46,6 +46,8 @@ use Rattle.store.specs.Node.{
   nodeOf,
   roomOf,
   countsOf,
+  frameCount,
+  messageCount,
   frameAt,
   messageAt,
   laidAt,
@@ -69,6 +71,9 @@ use Rattle.store.specs.Start.{startOf}
 use Rattle.message.specs.declared.Change.{Change}
 use Rattle.message.specs.Messages.{canHold, offered, invalidated, agreedBy, agreedOn}
 use Rattle.message.specs.Fields.{stageAfter, isGone, writes}
+use Rattle.own.specs.declared.Owner.{Owner}
+use Rattle.own.specs.declared.Places.{Places}
+use Rattle.own.specs.Own.{placesOf, cellAt, Given, owns}
 use Rattle.node.specs.Calls.{left}
 use Rattle.node.specs.Load.{loadOf}
 use Rattle.order.specs.Runs.{Call, Seen, Memory, Does}
@@ -130,6 +135,8 @@ pub record Once : Type 0 where
   pub no-message : Single (λ (r : Message). r ≡ noMessage)
   pub no-state : Single (λ (r : MessageState). r ≡ noState)
   pub counts : (b : List ℕ) → Single (λ (r : Counts). r ≡ countsOf (layoutOf b))
+  pub has-frame : (b : List ℕ) (f : ℕ) → Single (λ (r : Bool). r ≡ ltb f (frameCount (layoutOf b)))
+  pub has-message : (b : List ℕ) (m : ℕ) → Single (λ (r : Bool). r ≡ ltb m (messageCount (layoutOf b)))
   pub frame-at : (b : List ℕ) (f : ℕ) → Single (λ (r : Frame). r ≡ frameAt (layoutOf b) f)
   pub message-at : (b : List ℕ) (m : ℕ) → Single (λ (r : Message). r ≡ messageAt (layoutOf b) m)
   pub laid-at : (b : List ℕ) (d : ℕ) → Single (λ (r : FieldRecord). r ≡ laidAt (layoutOf b) d)
@@ -162,6 +169,10 @@ pub record Once : Type 0 where
   pub is-gone : (x : Field) → Single (λ (r : Bool). r ≡ isGone (x .stage))
   pub write-field : (buffer : List ℕ) (h : Frame) (g : Message) (s : MessageState) (x : FieldRecord)
       → Single (λ (after : List ℕ). after ≡ writes h g s x buffer)
+  -- own
+  pub places-of : (b : List ℕ) (o : Owner) → Single (λ (r : Places). (r ≡ placesOf (layoutOf b) o) × (r .end ≤ 128))
+  pub cell-at : (b : List ℕ) (o : Owner) (i : ℕ) → Single (λ (r : ℕ). (r ≡ cellAt (layoutOf b) o i) × Given o r)
+  pub own : (b : List ℕ) (o : Owner) (d : ℕ) → Single (λ (r : Bool). r ≡ owns (layoutOf b) o d)
   -- node: the eight calls, and loading
   pub call : (b : List ℕ) (c : Call) → Single (λ (o : Ended). Memory (o .memory) × Does b c (o .seen) (o .memory))
   pub load : (b file : List ℕ) → Single (λ (o : Returned). Memory (o .memory) × (left (o .answer) (o .memory) ≡ loadOf (nodeOf b) file))

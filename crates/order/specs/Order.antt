@@ -7,8 +7,8 @@ use Prim.Native.Nat.{ℕ}
 use lib.Dec.{eqb}
 use Rattle.record.specs.declared.Field.{Field as FieldRecord}
 use Rattle.store.specs.Node.{Layout, Node}
-use Rattle.node.specs.declared.Owner.{Owner}
-use Rattle.node.specs.Own.{fieldsOf}
+use Rattle.own.specs.declared.Owner.{Owner}
+use Rattle.own.specs.Own.{fieldsOf}
 use Rattle.order.specs.Runs.{Call, send, invalidate, assemble, consumed, readFlag, deliver, close, receive}
 use Rattle.order.specs.Runs.{Seen, seenOf, next, final, Memory, Does}
 

@@ -9,10 +9,10 @@ use Rattle.packing.specs.Places.{Agree}
 use Rattle.record.specs.declared.Field.{Field as FieldRecord}
 use Rattle.store.specs.declared.MessageState.{MessageState}
 use Rattle.store.specs.Node.{Node, isDelivered, laidAt, deliveryAt, stateAt, dataAt}
-use Rattle.node.specs.declared.Owner.{Owner}
-use Rattle.node.specs.Own.{isIn, cellsOf}
+use Rattle.own.specs.declared.Owner.{Owner}
+use Rattle.own.specs.Own.{isIn, cellsOf}
 use Rattle.node.specs.Closing.{came}
-use Rattle.node.specs.Sound.{messagePlaces, itsStatusPlaces}
+use Rattle.own.specs.SoundLayout.{messagePlaces, itsStatusPlaces}
 use Rattle.order.specs.Runs.{Call, Seen, seenOf, next}
 
 -- ---- own bits alone

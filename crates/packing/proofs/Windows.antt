@@ -1,53 +1,89 @@
 -- A field's bytes as one number: a frame bit in them is one bit of the number, whether it is read or written, and the field's bits lie side by side
--- there from its lowest bit on. So a field is unpacked by a shift and a remainder, and packed by putting its bits into the number; that this is
--- what `packed` says is seen bit by bit.
+-- there from its lowest bit on. So a field is unpacked by a shift and a remainder, and packed by putting its bits into the number, which goes byte by
+-- byte, since nothing is carried from one to the next; that this is what `packed` says is seen bit by bit.
 -- Assumes nothing.
 use mathlib.Core.Path.{_≡_, refl, sym, ap, _∙_}
 use mathlib.Core.Bool.{Bool, true, false, cond}
 use mathlib.Core.List.{List, [], _∷_}
 use mathlib.Core.Logic.{_⊎_, inl, inr}
 use Prim.Native.Nat.{ℕ, zero, suc, _+_, _-_, _*_, _/_, _%_, _^_, _<_, _≤_}
-use native.Mathlib.Nat.{add-mul, add-zero, div-lt-iff-lt-mul, div-mul-le-self, le-trans, mul-assoc, mod-le, mod-lt, mul-le-mul-right, zero-add}
+use native.Mathlib.Nat.{add-mul, add-zero, mod-lt, mod-mod, mul-assoc, zero-add}
 use native.Mathlib.Decide.{ℕ-discrete, decLt, decLe}
 use native.Mathlib.Omega.{arith}
+use lib.Bits.{bitAnd, and-block, and-high, and-le-l, and-le-r, and-mod, and-shr, and-zero-r, or-add-and, or-lt}
 use lib.ListN.{length, getD, set, take, length-set}
-use lib.Pow.{high, pow-add, pow-mono, pow-pos, shl-exact, shr-lt, shr-shr, split}
-use lib.Seq.{ext-getD, getD-set-other, getD-set-same, getD-take, set-out}
+use lib.Pow.{high-ones, pow-add, pow-mono, pow-pos, shl-exact, shl-shr, shr-lt, shr-shr, split}
+use lib.Seq.{ext-getD, getD-set-other, getD-set-same, getD-take, set-getD, set-out}
 use Rattle.whole.specs.Whole.{Bytes}
 use Rattle.packing.specs.Places.{bitOf, bitAt, placeOf, frameBit, bitPlaces, places, inFrame, placesIn, packed, unpacked, Inside}
-use Rattle.packing.specs.Window.{byteOf, windowOf, withWindow, lowBit, swapped, inOrder, withBits}
+use Rattle.packing.specs.Window.{byteOf, windowOf, withWindow, replaced, withReplaced, lowBit, swapped, inOrder}
 use Rattle.packing.proofs.Bit.{bit-low, bit-high, bit-lowest, same-bits}
 use Rattle.packing.proofs.Frame.{packed-length, packed-bytes, packed-bit, packed-other, lowest}
 use Rattle.packing.proofs.Places.{frame-bit-inside, message-bit, places-at, places-length, places-inside, places-distinct, places-apart}
 
--- ---- bits of a number replaced
+-- ---- the bits of a mask replaced
+
+-- a byte stays one
+pub replaced-below : (x m y : ℕ) → x < 256 → m < 256 → y ≤ m → replaced x m y < 256
+unfolding replaced
+replaced-below x m y h l i = omega (arith, or-add-and x m, or-lt 8 x m h l, and-le-l x m)
+
+-- bits that lie in a mask lie in its lowest byte and in the rest
+pub byte-in-mask : (m y : ℕ) → bitAnd y m ≡ y → y % 256 ≤ m % 256
+byte-in-mask m y i =
+    let low : y % 256 ≡ bitAnd (y % 256) (m % 256) = ap (λ (z : ℕ). z % 256) (sym i) ∙ and-mod y m 8 in
+    omega (arith, and-le-r (y % 256) (m % 256))
+
+pub rest-in-mask : (m y : ℕ) → bitAnd y m ≡ y → bitAnd (y / 256) (m / 256) ≡ y / 256
+rest-in-mask m y i = sym (and-shr y m 8) ∙ ap (λ (z : ℕ). z / 256) i
+
+-- a mask for the bytes from d to n that has a bit: there is a byte d, and the mask's rest is for those behind it
+pub mask-turn : (n d m : ℕ) → 0 < m → m < 2 ^ ((n - d) * 8) → (d < n) × (m / 256 < 2 ^ ((n - (d + 1)) * 8))
+mask-turn n d m h l = go (decLt d n)
+  where
+    go : Dec (d < n) → (d < n) × (m / 256 < 2 ^ ((n - (d + 1)) * 8))
+    go (yes i) =
+        let e : (n - d) * 8 ≡ (n - (d + 1)) * 8 + 8 = omega arith in
+        (i, shr-lt ((n - (d + 1)) * 8) 8 (rw e at l))
+    go (no i) =
+        let e : n - d ≡ 0 = omega arith in
+        let none : m < 1 = rw e at l in
+        absurd (omega arith)
+
+-- the lowest byte and the rest are changed each by itself
+replaced-parts : (w x m y : ℕ) → x < 256 → replaced (w * 256 + x) m y ≡ replaced w (m / 256) (y / 256) * 256 + replaced x (m % 256) (y % 256)
+unfolding replaced
+replaced-parts w x m y h =
+    let parts : bitAnd (w * 256 + x) m ≡ bitAnd w (m / 256) * 256 + bitAnd x (m % 256) =
+    ap (bitAnd (w * 256 + x)) (sym (split m 8)) ∙ and-block 8 w (m / 256) x (m % 256) h (omega arith)
+    in
+    omega (arith, and-le-l w (m / 256), and-le-l x (m % 256))
+
+-- ---- a field's bits replaced
 
 -- the code's shift of 1
 pub power : (n : ℕ) → n ≤ 32 → 1 * 2 ^ n % 2 ^ 64 ≡ 2 ^ n
 power n h = shl-exact {a = 1} 1 n 64 (omega arith) (omega arith) ∙ omega arith
 
-pub field-weight : (x k n : ℕ) → x / 2 ^ k % 2 ^ n * 2 ^ k ≤ x
-field-weight x k n = le-trans (mul-le-mul-right (2 ^ k) (mod-le (x / 2 ^ k) (2 ^ n))) (div-mul-le-self x (2 ^ k))
+-- the number with the lowest n bits of v for its n bits from bit k on
+abbrev withBits : ℕ → ℕ → ℕ → ℕ → ℕ
+withBits x k n v = replaced x ((2 ^ n - 1) * 2 ^ k) (v % 2 ^ n * 2 ^ k)
+
+-- the mask cuts the field out
+field-cut : (x k n : ℕ) → bitAnd x ((2 ^ n - 1) * 2 ^ k) ≡ x / 2 ^ k % 2 ^ n * 2 ^ k
+field-cut x k n = rw (← high-ones n k) (and-high x n k)
+
+-- the new bits lie in the mask
+pub field-in-mask : (k n v : ℕ) → bitAnd (v % 2 ^ n * 2 ^ k) ((2 ^ n - 1) * 2 ^ k) ≡ v % 2 ^ n * 2 ^ k
+field-in-mask k n v = field-cut (v % 2 ^ n * 2 ^ k) k n ∙ rw (shl-shr, mod-mod v (2 ^ n))
 
 -- the bits above, the new ones, and the bits below
 with-parts : (x k n v : ℕ) → withBits x k n v ≡ (x / 2 ^ k / 2 ^ n * 2 ^ n + v % 2 ^ n) * 2 ^ k + x % 2 ^ k
-unfolding withBits
+unfolding replaced
 with-parts x k n v =
     let a = x / 2 ^ k in
     let old : a * 2 ^ k ≡ a / 2 ^ n * 2 ^ n * 2 ^ k + a % 2 ^ n * 2 ^ k = ap (λ (y : ℕ). y * 2 ^ k) (sym (split a n)) ∙ add-mul _ _ _ in
-    omega (arith, split x k, add-mul (a / 2 ^ n * 2 ^ n) (v % 2 ^ n) (2 ^ k))
-
-join-below : (hi lo j k : ℕ) → hi < 2 ^ j → lo < 2 ^ k → hi * 2 ^ k + lo < 2 ^ (j + k)
-join-below hi lo j k h l = rw pow-add (div-lt-iff-lt-mul (pow-pos k) .0 (rw (high hi k l) h))
-
--- a number of m bits stays one
-pub with-room : (m x k n v : ℕ) → x < 2 ^ m → k + n ≤ m → withBits x k n v < 2 ^ m
-with-room m x k n v h l =
-    let e : m - k - n + n + k ≡ m = omega arith in
-    let above : x / 2 ^ k / 2 ^ n < 2 ^ (m - k - n) = shr-lt (m - k - n) n (shr-lt (m - k - n + n) k (rw e h)) in
-    rw with-parts
-    (rw e at
-    (join-below _ (x % 2 ^ k) (m - k - n + n) k (join-below _ (v % 2 ^ n) (m - k - n) n above (mod-lt v (pow-pos n))) (mod-lt x (pow-pos k))))
+    rw field-cut (omega (arith, split x k, add-mul (a / 2 ^ n * 2 ^ n) (v % 2 ^ n) (2 ^ k)))
 
 with-new : (x k n v j : ℕ) → j < n → bitOf (withBits x k n v) (k + j) ≡ bitOf v j
 with-new x k n v j h =
@@ -76,7 +112,7 @@ with-other x k n v m (inr h) =
 
 -- ---- reading and writing the bytes
 
-set-bytes : (f : List ℕ) (i x : ℕ) → Bytes f → x < 256 → Bytes (set f i x)
+pub set-bytes : (f : List ℕ) (i x : ℕ) → Bytes f → x < 256 → Bytes (set f i x)
 set-bytes f i x b h k = go (ℕ-discrete k i) (decLt i (length f))
   where
     go : Dec (k ≡ i) → Dec (i < length f) → getD (set f i x) k 0 < 256
@@ -113,7 +149,7 @@ module _ (big : Bool) (first past : ℕ) where
       let m = pow-mono {i = n * 8} {j = k * 8} (omega arith) in
       omega (arith, window-below f b d n)
 
-  -- a turn of the code that reads them, from the highest on, and of the code that writes them, from the lowest on
+  -- a turn of the code that reads them, from the highest on
   pub read-turn : (f : List ℕ) (d n : ℕ) → 0 < d → d ≤ n
       → windowOf big first past f d (n - d) * 256 + getD f (byteOf big first past (d - 1)) 0 ≡ windowOf big first past f (d - 1) (n - (d - 1))
   unfolding windowOf
@@ -132,10 +168,42 @@ module _ (big : Bool) (first past : ℕ) where
       let p : 2 ^ (suc n * 8) ≡ 2 ^ (n * 8) * 256 = ap (λ (m : ℕ). 2 ^ m) (omega arith) ∙ pow-add 2 (n * 8) 8 in
       rw (e, p, ← mul-assoc _ (2 ^ (n * 8)) 256) (omega (arith, read-next f (d + 1) n))
 
-  pub write-turn : (f g : List ℕ) (d n y : ℕ) → d < n → withWindow big first past d (n - d) y f ≡ g
-      → withWindow big first past (d + 1) (n - (d + 1)) (y / 256) (set f (byteOf big first past d) (y % 256)) ≡ g
-  unfolding withWindow
-  write-turn f g d n y h i = let e : n - d ≡ suc (n - (d + 1)) = omega arith in rw e at i
+  -- the number does not depend on another byte
+  window-other : (f : List ℕ) (r x d n : ℕ) → ((e : ℕ) → d ≤ e → e < d + n → byteOf big first past e ≡ r → ⊥)
+      → windowOf big first past (set f r x) d n ≡ windowOf big first past f d n
+  unfolding windowOf
+  window-other f r x d zero o = refl
+  window-other f r x d (suc n) o =
+      rw (
+        window-other f r x (d + 1) n (λ e h l. o e (omega arith) (omega arith)),
+        getD-set-other f r (byteOf big first past d) x 0 (o d (omega arith) (omega arith)),
+      )
+
+  -- a turn of the code that changes them, from the lowest on
+  pub replaced-step : (f : List ℕ) (d n m y : ℕ) → Bytes f → first + (d + suc n) ≤ past → bitAnd y m ≡ y →
+      let r = byteOf big first past d in
+      withReplaced big first past d (suc n) m y f
+      ≡ withReplaced big first past (d + 1) n (m / 256) (y / 256) (set f r (replaced (getD f r 0) (m % 256) (y % 256)))
+  unfolding withReplaced withWindow windowOf
+  replaced-step f d n m y b w i =
+      let r = byteOf big first past d in
+      let rest = windowOf big first past f (d + 1) n in
+      let x = getD f r 0 in
+      let new = replaced x (m % 256) (y % 256) in
+      let parts = replaced-parts rest x m y (b r) in
+      let below = replaced-below x (m % 256) (y % 256) (b r) (omega arith) (byte-in-mask m y i) in
+      let up : replaced (rest * 256 + x) m y / 256 ≡ replaced rest (m / 256) (y / 256) = omega arith in
+      let low : replaced (rest * 256 + x) m y % 256 ≡ new = omega arith in
+      rw (up, low, window-other f r new (d + 1) n (λ e h l q. omega (arith, byte-own e d (omega arith) (omega arith) q)))
+
+  -- an empty mask changes none of them
+  pub replaced-none : (f : List ℕ) → Bytes f → (d n : ℕ) → first + (d + n) ≤ past → withReplaced big first past d n 0 0 f ≡ f
+  unfolding withReplaced withWindow replaced
+  replaced-none f b d zero w = refl
+  replaced-none f b d (suc n) w =
+      let r = byteOf big first past d in
+      let kept : replaced (getD f r 0) 0 0 ≡ getD f r 0 = rw and-zero-r (omega arith) in
+      replaced-step f d n 0 0 b w refl ∙ rw (kept, set-getD f r 0) (replaced-none f b (d + 1) n (omega arith))
 
   -- bit m of the number is bit m % 8 of its byte m / 8
   window-bit : (f : List ℕ) → Bytes f → (d n m : ℕ) → m < n * 8

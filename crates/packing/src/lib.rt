@@ -2,12 +2,13 @@
 ghost use mathlib.Core.Path.{_≡_};
 ghost use mathlib.Core.Bool.{false};
 ghost use Prim.Native.Nat.{_+_, _-_, _*_, _/_, _%_, _<_, _≤_, _^_};
+ghost use lib.Bits.{bitAnd};
 ghost use lib.ListN.{length, take};
 ghost use lib.Signed.{mag};
 ghost use Rattle.whole.specs.Whole.{word};
 ghost use Rattle.packing.specs.Places.{places, inFrame, placesIn, packed, unpacked};
 ghost use Rattle.packing.specs.Values.{inRange, valueOf, patternOf, extended};
-ghost use Rattle.packing.specs.Window.{Window, Around, byteOf, windowOf, withWindow, lowBit, swapped, inOrder, withBits};
+ghost use Rattle.packing.specs.Window.{Window, Around, byteOf, windowOf, replaced, withReplaced, lowBit, swapped, inOrder};
 
 // ---- a field's bytes, first .. past, as one number
 
@@ -33,14 +34,28 @@ fn window(frame: &[u8], big: bool, first: usize, past: usize) -> u64
     x
 }
 
-fn put_window(frame: &mut [u8], big: bool, first: usize, past: usize, number: u64)
-    requires { ⌜ Window (length (now frame)) first past ⌝ }
-    ensures { λ _. ⌜ now (frame .exit) ≡ withWindow big first past 0 (past - first) number (now (frame .entry)) ⌝ }
+// The old bits of the mask are taken out of a byte and the new ones put in, so that the other bits stay.
+fn replaced_byte(x: u8, m: u8, y: u8) -> u8
+    requires { ⌜ y ≤ m ⌝ }
+    ensures { λ r. ⌜ r ≡ replaced x m y ⌝ }
 {
-    let mut y = number;
-    for d in 0..past - first {
-        frame[byte_of(big, first, past, d)] = (y % 256) as u8;
+    x - (x & m) + y
+}
+
+// The same in all the bytes. The loop is not counted: a compiler would unroll it, though most fields take one turn or two.
+fn put_bits(frame: &mut [u8], big: bool, first: usize, past: usize, mask: u64, bits: u64)
+    requires { ⌜ Window (length (now frame)) first past × (mask < 2 ^ ((past - first) * 8)) × (bitAnd bits mask ≡ bits) ⌝ }
+    ensures { λ _. ⌜ now (frame .exit) ≡ withReplaced big first past 0 (past - first) mask bits (now (frame .entry)) ⌝ }
+{
+    let mut m = mask;
+    let mut y = bits;
+    let mut d = 0;
+    while 0 < m {
+        let i = byte_of(big, first, past, d);
+        frame[i] = replaced_byte(frame[i], (m % 256) as u8, (y % 256) as u8);
+        m = m / 256;
         y = y / 256;
+        d += 1;
     }
 }
 
@@ -78,7 +93,7 @@ fn in_order(big: bool, x: u64) -> u64
 // The number's bit that is the lowest of the field.
 fn low_bit(big: bool, first: usize, past: usize, start: usize, end: usize) -> usize
     requires { ⌜ Around first past start end ⌝ }
-    ensures { λ r. ⌜ (r ≡ lowBit big first past start end) × (r < 64) × (r + (end - start) ≤ 64) ⌝ }
+    ensures { λ r. ⌜ (r ≡ lowBit big first past start end) × (r < 64) ⌝ }
 {
     if big {
         past * 8 - end
@@ -87,13 +102,12 @@ fn low_bit(big: bool, first: usize, past: usize, start: usize, end: usize) -> us
     }
 }
 
-// The old bits are taken out and the new ones put in, so that the other bits stay.
-fn with_bits(x: u64, k: usize, width: usize, pattern: u32) -> u64
-    requires { ⌜ (k < 64) × (k + width ≤ 64) × (width ≤ 32) ⌝ }
-    ensures { λ r. ⌜ r ≡ withBits x k width pattern ⌝ }
+// The same where the bytes are the field's own, so written that a compiler sees that it is below 8.
+fn low_bit_in_byte(big: bool, start: usize, end: usize) -> usize
+    requires { ⌜ start ≤ end ⌝ }
+    ensures { λ r. ⌜ (r ≡ lowBit big (start / 8) ((end + 7) / 8) start end) × (r < 8) × (r + (end - start) ≤ ((end + 7) / 8 - start / 8) * 8) ⌝ }
 {
-    let m = 1u64 << width;
-    x - (((x >> k) % m) << k) + ((pattern as u64 % m) << k)
+    if big { (8 - end % 8) % 8 } else { start % 8 }
 }
 
 // ---- packing
@@ -105,17 +119,16 @@ fn in_frame(bytes: usize, start: u8, width: u8) -> bool
     (width <= 32) & ((end + 7) / 8 <= bytes)
 }
 
-// The number of bytes is said so that a compiler sees that a status bit has one.
 fn pack_bits(frame: &mut [u8], big: bool, start: usize, width: usize, pattern: u32)
     requires { ⌜ (start + width ≤ length (now frame) * 8) × (start + width ≤ 287) × (width ≤ 32) ⌝ }
     ensures { λ _. ⌜ now (frame .exit) ≡ packed (places big start width) pattern (now (frame .entry)) ⌝ }
 {
     let first = start / 8;
     let end = start + width;
-    let past = first + (start % 8 + width + 7) / 8;
-    let x = window(&frame[..], big, first, past);
-    let k = low_bit(big, first, past, start, end);
-    put_window(frame, big, first, past, with_bits(x, k, width, pattern));
+    let past = (end + 7) / 8;
+    let k = low_bit_in_byte(big, start, end);
+    let m = (1u64 << width) - 1;
+    put_bits(frame, big, first, past, m << k, (pattern as u64 & m) << k);
 }
 
 fn cut(x: u64, k: usize, width: usize) -> u32

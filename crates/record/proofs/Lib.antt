@@ -1,5 +1,2 @@
-pub mod Arms
-pub mod Lowest
 pub mod Searches
 pub mod Tests
-pub mod Ways

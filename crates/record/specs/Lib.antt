@@ -1,5 +1,3 @@
-pub mod Claims
 pub mod Numbers
-pub mod Ranges
 pub mod Records
 pub mod Runs

@@ -2,6 +2,7 @@
 ghost use mathlib.Core.Path.{_≡_};
 ghost use mathlib.Core.List.{[]};
 ghost use Prim.Native.Nat.{_+_, _<_, _≤_, min};
+ghost use lib.Dec.{ltb};
 ghost use lib.ListN.{length, replicate};
 ghost use lib.Seq.{paste};
 ghost use Rattle.record.specs.Numbers.{tally};
@@ -24,6 +25,8 @@ ghost use Rattle.store.specs.Node.{
   nodeOf,
   roomOf,
   countsOf,
+  frameCount,
+  messageCount,
   frameAt,
   messageAt,
   laidAt,
@@ -51,7 +54,7 @@ ghost use Rattle.store.specs.Start.{
   selected,
   liesIn,
   laidFrame,
-  names,
+  isInstance,
   firstField,
   startMessage,
   startMessageOrNone,
@@ -256,13 +259,13 @@ fn write_state(c: &mut [u8], s: MessageState)
 fn stage_of(k: u8) -> Stage
     ensures { λ r. ⌜ r ≡ stageOf k ⌝ }
 {
-    if k > 1 {
-        return Stage::Gone(k);
+    if k == 0 {
+        return Stage::Waiting;
     }
     if k == 1 {
         return Stage::Loaded;
     }
-    Stage::Waiting
+    Stage::Gone(k)
 }
 
 fn code_of(s: Stage) -> u8
@@ -324,6 +327,29 @@ pub fn counts(node: &[u8]) -> Counts
         messages: least(node[1], 32),
         fields: least(node[2], 128),
     }
+}
+
+// Whether the number is below a count of at most 32.
+fn is_counted(number: u64, count: u8) -> bool
+    ensures { λ r. ⌜ r ≡ ltb number (min count 32) ⌝ }
+{
+    (number < 32) & (number < count as u64)
+}
+
+// Whether there is a frame of that number.
+pub fn has_frame(node: &[u8], f: u64) -> bool
+    requires { ⌜ length (now node) ≡ nodeSize ⌝ }
+    ensures { λ r. ⌜ r ≡ ltb f (frameCount (layoutOf (now (node .entry)))) ⌝ }
+{
+    is_counted(f, node[0])
+}
+
+// Whether there is a message of that number.
+pub fn has_message(node: &[u8], m: u64) -> bool
+    requires { ⌜ length (now node) ≡ nodeSize ⌝ }
+    ensures { λ r. ⌜ r ≡ ltb m (messageCount (layoutOf (now (node .entry)))) ⌝ }
+{
+    is_counted(m, node[1])
 }
 
 pub fn frame_at(node: &[u8], f: usize) -> Frame
@@ -611,7 +637,7 @@ fn first_field(file: &[u8], at: usize, fields: usize, m: u8) -> usize
 // How many of them name it.
 fn field_number(file: &[u8], at: usize, fields: usize, m: u8) -> usize
     requires { ⌜ (at ≤ 64) × (fields ≤ 128) ⌝ }
-    ensures { λ r. ⌜ (r ≡ tally (names (now (file .entry)) at m) fields) × (r ≤ fields) ⌝ }
+    ensures { λ r. ⌜ (r ≡ tally (isInstance (now (file .entry)) at m) fields) × (r ≤ fields) ⌝ }
 {
     let mut t = 0;
     for d in 0..fields {

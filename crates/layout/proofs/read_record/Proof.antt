@@ -3,8 +3,8 @@
 use mathlib.Core.Path.{_≡_, refl, sym, _∙_}
 use mathlib.Core.Bool.{false}
 use borrow.Author.Needs.{needs}
-use Rattle.record.specs.Ranges.{rangeFault}
-use Rattle.record.specs.declared.RangeFault.{RangeFault}
+use Rattle.ranges.specs.Ranges.{rangeFault}
+use Rattle.ranges.specs.declared.RangeFault.{RangeFault}
 use Rattle.layout.specs.Verdict.{orderFault, refFault, groupFault, placeFault, fails, refusalOf, readAt}
 use Rattle.layout.proofs.read_record.Statement.{statement}
 use Rattle.layout.proofs.read_record.Tie as tie

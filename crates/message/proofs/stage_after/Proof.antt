@@ -1,4 +1,13 @@
--- `message::stage_after` meets its contract, change by change and stage by stage. Assumes nothing.
+-- `message::stage_after` meets its contract, change by change; a stage that the change leaves is returned as it is. Assumes nothing.
+use mathlib.Core.Path.{_≡_, refl}
+use mathlib.Core.Logic.{_⊎_, ⊎-elim}
+use native.Mathlib.Omega.{arith}
+use denote.Enum.Declared.{tagOf}
+use Rattle.store.specs.declared.Stage.{Stage}
+use Rattle.store.specs.declared.Stage.the-variants.{Waiting, Loaded, Gone}
+use Rattle.store.proofs.Stage.{the-type}
+use Rattle.message.specs.declared.Change.{Change}
+use Rattle.message.specs.Fields.{stageAfter}
 use borrow.Author.Needs.{needs}
 use Rattle.message.proofs.stage_after.Statement.{statement}
 use Rattle.message.proofs.stage_after.Tie as tie
@@ -24,20 +33,8 @@ enum-told-6 c = search needs
 enum-told-7 : tie.Need-enum-told-7
 enum-told-7 c = search needs
 
-enum-known-stage : tie.Need-enum-known-stage
-enum-known-stage c = search needs
-
 enum-told-8 : tie.Need-enum-told-8
 enum-told-8 c = search needs
-
-enum-told-9 : tie.Need-enum-told-9
-enum-told-9 c = search needs
-
-enum-told-10 : tie.Need-enum-told-10
-enum-told-10 c = search needs
-
-enum-known-stage-2 : tie.Need-enum-known-stage-2
-enum-known-stage-2 c = search needs
 
 sent-waiting : tie.Need-returns
 sent-waiting c = search needs
@@ -51,20 +48,26 @@ sent-gone c = search needs
 load-waiting : tie.Need-returns-4
 load-waiting c = search needs
 
-load-loaded : tie.Need-returns-5
-load-loaded c = search needs
+-- the code tells stages apart by their tags, 0, 1 and 2; an assembly leaves one that is not waiting
+not-waiting : (s : Stage) → (tagOf the-type s ≡ 1) ⊎ (tagOf the-type s ≡ 2) → s ≡ stageAfter Change.Load s
+not-waiting Waiting w = absurd (⊎-elim (λ e. omega arith) (λ e. omega arith) w)
+not-waiting Loaded w = refl
+not-waiting (Gone k) w = refl
 
-load-gone : tie.Need-returns-6
-load-gone c = rw (c .before .before .before .enum-told5 .given .1, c .before .stage .given .1)
+load-other : tie.Need-returns-5
+load-other c = rw (c .before .enum-told5 .given .1) (not-waiting _ (c .match3 .keys2))
 
-consume-waiting : tie.Need-returns-7
-consume-waiting c = search needs
-
-consume-loaded : tie.Need-returns-8
+consume-loaded : tie.Need-returns-6
 consume-loaded c = search needs
 
-consume-gone : tie.Need-returns-9
-consume-gone c = rw (c .before .before .before .enum-told8 .given .1, c .before .stage2 .given .1)
+-- consuming leaves one that is not loaded
+not-loaded : (s : Stage) → (tagOf the-type s ≡ 0) ⊎ (tagOf the-type s ≡ 2) → s ≡ stageAfter Change.Consume s
+not-loaded Waiting w = refl
+not-loaded Loaded w = absurd (⊎-elim (λ e. omega arith) (λ e. omega arith) w)
+not-loaded (Gone k) w = refl
+
+consume-other : tie.Need-returns-7
+consume-other c = rw (c .before .enum-told7 .given .1) (not-loaded _ (c .match4 .keys2))
 
 pub stage-after-spec : {M : Type 1} → statement M
 stage-after-spec =
@@ -77,17 +80,11 @@ stage-after-spec =
     enum-told-5
     enum-told-6
     enum-told-7
-    enum-known-stage
     enum-told-8
-    enum-told-9
-    enum-told-10
-    enum-known-stage-2
     sent-waiting
     sent-loaded
     sent-gone
     load-waiting
-    load-loaded
-    load-gone
-    consume-waiting
+    load-other
     consume-loaded
-    consume-gone)
+    consume-other)

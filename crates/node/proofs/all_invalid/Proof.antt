@@ -8,46 +8,46 @@ use Prim.Native.Nat.{_<_, _-_}
 use native.Mathlib.Omega.{arith}
 use borrow.Author.Needs.{needs}
 use Rattle.store.specs.Node.{layoutOf, stateOf}
-use Rattle.node.specs.declared.Owner.{Owner}
-use Rattle.node.specs.declared.Places.{Places}
-use Rattle.node.specs.Own.{endPlace, fieldsOf}
+use Rattle.own.specs.declared.Owner.{Owner}
+use Rattle.own.specs.declared.Places.{Places}
+use Rattle.own.specs.Own.{endPlace, fieldsOf}
 use Rattle.node.specs.Calls.{allInvalid}
-use Rattle.node.proofs.Turns.{invalidAhead, invalid-begin, invalid-turn, invalid-skip, invalid-stop, invalid-end}
+use Rattle.node.proofs.Turns.{inside, invalidAhead, invalid-begin, invalid-turn, invalid-skip, invalid-stop, invalid-end}
 use Rattle.node.proofs.all_invalid.Statement.{statement}
 use Rattle.node.proofs.all_invalid.Tie as tie
 
 abbrev Inv-loop : tie.InvT-loop
-Inv-loop node frame c owner from end some₀ i₀ some i =
+Inv-loop node frame owner from end some₀ i₀ some i =
     allInvalid (stateOf node) (fieldsOf (layoutOf node) (Owner.Frame frame)) ≡ invalidAhead (layoutOf node) (Owner.Frame frame) (stateOf node) some i
 
 abbrev μ-loop : tie.MeasureT-loop
-μ-loop node frame c owner from end some₀ i₀ some i = end - i
+μ-loop node frame owner from end some₀ i₀ some i = end - i
 
 abbrev start : tie.At-loop Inv-loop μ-loop → tie.Start Inv-loop μ-loop
-start c = c .before .before .before .before
+start c = c .before .before .before
 
 same-end : (c : tie.At-loop Inv-loop μ-loop)
-    → c .before .own-places .result .end ≡ endPlace (layoutOf (start c .args .node .now)) (Owner.Frame (start c .args .frame))
-same-end c = ap (λ (k : Places). k .end) (c .before .own-places .ensures .0)
+    → c .before .places-of .result .end ≡ endPlace (layoutOf (start c .args .node .now)) (Owner.Frame (start c .args .frame))
+same-end c = ap (λ (k : Places). k .end) (c .before .places-of .ensures .0)
 
-counts-requires : tie.Need-counts-requires Inv-loop μ-loop
-counts-requires c κs = search needs
-
-own-places-requires : tie.Need-own-places-requires Inv-loop μ-loop
-own-places-requires c κs = c .before .before .pre
+places-of-requires : tie.Need-places-of-requires Inv-loop μ-loop
+places-of-requires c κs = c .before .pre
 
 loop-holds : tie.Need-loop-holds Inv-loop μ-loop
 loop-holds c =
-    let args = c .before .before .before .args in
-    rw (c .own-places .ensures .0) (invalid-begin (layoutOf (args .node .now)) (Owner.Frame (args .frame)) (stateOf (args .node .now)))
+    let args = c .before .before .args in
+    rw (c .places-of .ensures .0) (invalid-begin (layoutOf (args .node .now)) (Owner.Frame (args .frame)) (stateOf (args .node .now)))
 
-own-cell-requires : tie.Need-own-cell-requires Inv-loop μ-loop
-own-cell-requires c κs =
-    let loop = c .before in
-    (search needs, loop .before .before .counts .ensures, start loop .pre .1)
+cell-at-requires : tie.Need-cell-at-requires Inv-loop μ-loop
+cell-at-requires c κs = (search needs, start (c .before) .pre .1)
+
+owns-requires : tie.Need-owns-requires Inv-loop μ-loop
+owns-requires c κs = (c .cell-at .ensures .1, start (c .before .before) .pre .1)
 
 laid-at-requires : tie.Need-laid-at-requires Inv-loop μ-loop
-laid-at-requires c κs = search needs
+laid-at-requires c κs =
+    let asked = c .before in
+    (inside _ _ (asked .owns .ensures) (c .if1 .taken), start (asked .before .before .before) .pre .1)
 
 its-state-requires : tie.Need-its-state-requires Inv-loop μ-loop
 its-state-requires c κs = search needs
@@ -56,12 +56,13 @@ returns : tie.Need-returns Inv-loop μ-loop
 returns c =
     let state = c .before .before in
     let read = state .before in
-    let cell = read .before .before in
-    let loop = cell .before .before in
+    let asked = read .before .before in
+    let told = asked .before in
+    let loop = told .before .before in
     let args = start loop .args in
     let valid = rw (state .its-state .ensures, read .laid-at .ensures) at (c .if2 .taken) in
     invalid-stop (layoutOf (args .node .now)) (Owner.Frame (args .frame)) (stateOf (args .node .now)) (loop .loop .i) (omega (arith, same-end loop))
-    (cell .own-cell .ensures) (loop .loop .some) (loop .loop .inv) (read .before .if1 .taken) (ap not valid)
+    (told .cell-at .ensures .0) (asked .owns .ensures) (loop .loop .some) (loop .loop .inv) (read .before .if1 .taken) (ap not valid)
 
 add-i : tie.Need-add-i Inv-loop μ-loop
 add-i c = search needs
@@ -71,8 +72,9 @@ loop-less c = search needs
 
 loop-again : tie.Need-loop-again Inv-loop μ-loop
 loop-again c =
-    let cell = c .before in
-    let loop = cell .before .before in
+    let asked = c .before in
+    let told = asked .before in
+    let loop = told .before .before in
     let args = start loop .args in
     let l = layoutOf (args .node .now) in
     let owner = Owner.Frame (args .frame) in
@@ -81,9 +83,10 @@ loop-again c =
     ⊎-elim
     (λ w. let valid = rw (w .2 .ensures, w .1 .ensures) at (w .4 .left) in
     rw (w .5)
-    (invalid-turn l owner s (loop .loop .i) here (cell .own-cell .ensures) (loop .loop .some) (loop .loop .inv) (w .0 .taken) (ap not valid)))
+    (invalid-turn l owner s (loop .loop .i) here (told .cell-at .ensures .0) (asked .owns .ensures) (loop .loop .some) (loop .loop .inv) (w .0 .taken)
+    (ap not valid)))
     (λ w. rw (w .1)
-    (invalid-skip l owner s (loop .loop .i) here (cell .own-cell .ensures) (loop .loop .some) (loop .loop .inv) (λ h. omega arith)))
+    (invalid-skip l owner s (loop .loop .i) here (told .cell-at .ensures .0) (asked .owns .ensures) (loop .loop .some) (loop .loop .inv) (w .0 .left)))
     (c .if1 .came)
 
 returns-2 : tie.Need-returns-2 Inv-loop μ-loop
@@ -99,10 +102,10 @@ all-invalid-spec =
     (tie.spec
     Inv-loop
     μ-loop
-    counts-requires
-    own-places-requires
+    places-of-requires
     loop-holds
-    own-cell-requires
+    cell-at-requires
+    owns-requires
     laid-at-requires
     its-state-requires
     returns

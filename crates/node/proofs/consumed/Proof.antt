@@ -30,11 +30,11 @@ in-cell c =
 cast-owner : tie.Need-cast-t9
 cast-owner c = omega (arith, in-cell c)
 
-own-places-requires : tie.Need-own-places-requires
-own-places-requires c κs = (in-cell (c .before), search needs)
+places-of-requires : tie.Need-places-of-requires
+places-of-requires c κs = (in-cell (c .before), search needs)
 
 move-fields-requires : tie.Need-move-fields-requires
-move-fields-requires c κs = (c .before .own-places .ensures .0, search needs)
+move-fields-requires c κs = (c .before .places-of .ensures .0, search needs)
 
 same-length-2 : tie.Need-same-length-2
 same-length-2 c = search needs
@@ -55,7 +55,7 @@ consumed-spec =
     same-length
     returns
     cast-owner
-    own-places-requires
+    places-of-requires
     move-fields-requires
     same-length-2
     returns-2)

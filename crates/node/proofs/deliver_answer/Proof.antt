@@ -1,38 +1,38 @@
 -- `node::deliver_answer` meets its contract: the tests are those of the definition, in its order. Assumes nothing.
-use mathlib.Core.Path.{_≡_, refl, ap}
-use mathlib.Core.Bool.{true, false}
-use native.Mathlib.Omega.{arith}
+use mathlib.Core.Path.{_≡_, refl}
+use mathlib.Core.Bool.{true, false, not}
+use Prim.Native.Nat.{_<_}
+use lib.ListN.{length}
 use lib.Dec.{eqb, ltb}
-use borrow.Author.Tests.{lt-ltb, le-ltb, eq-eqb, ne-eqb, not-true, not-false}
+use borrow.Author.Tests.{eq-eqb, ne-eqb, not-true, not-false}
 use borrow.Author.Needs.{needs}
-use Rattle.layout.specs.declared.Counts.{Counts}
-use Rattle.store.specs.Node.{layoutOf, frameCount}
+use Rattle.store.specs.Node.{nodeSize, layoutOf, frameCount}
 use Rattle.node.specs.Calls.{deliverAnswer}
+use Rattle.node.proofs.Answers.{counted}
 use Rattle.node.proofs.deliver_answer.Statement.{statement}
 use Rattle.node.proofs.deliver_answer.Tie as tie
-
-counted : (c : tie.After-counts) → c .counts .result .frames ≡ frameCount (layoutOf (c .before .before .args .node .now))
-counted c = ap (λ (r : Counts). r .frames) (c .counts .ensures)
 
 -- past the first test the frame is one of the layout
 known : (c : tie.Else1)
     → let a = c .before .before .before .args in
-    ltb (a .frame) (frameCount (layoutOf (a .node .now))) ≡ true
-known c =
-    let a = c .before .before .before .args in
-    lt-ltb (a .frame) (frameCount (layoutOf (a .node .now))) (omega (arith, counted (c .before)))
+    not (ltb (a .frame) (frameCount (layoutOf (a .node .now)))) ≡ false
+known c = rw (c .before .has-frame .ensures) at (c .if1 .left)
 
-counts-requires : tie.Need-counts-requires
-counts-requires c κs = search needs
+has-frame-requires : tie.Need-has-frame-requires
+has-frame-requires c κs = search needs
 
 returns-unknown : tie.Need-returns
 unfolding deliverAnswer
-returns-unknown c =
-    let a = c .before .before .before .args in
-    rw (le-ltb (a .frame) (frameCount (layoutOf (a .node .now))) (omega (arith, counted (c .before)))) refl
+returns-unknown c = rw (rw (c .before .has-frame .ensures) at (c .if1 .taken)) refl
+
+-- past the first test the frame has a cell in the memory
+in-cell : (c : tie.Else1) → (c .before .before .before .args .frame < 32) × (length (c .before .before .before .args .node .now) ≡ nodeSize)
+in-cell c =
+    let start = c .before .before .before in
+    (counted (start .args .frame) (layoutOf (start .args .node .now) .frame-number) (c .before .has-frame .ensures) (c .if1 .left), start .pre)
 
 frame-at-requires : tie.Need-frame-at-requires
-frame-at-requires c κs = (omega (arith, counted (c .before)), c .before .before .before .pre)
+frame-at-requires c κs = in-cell c
 
 returns-sent : tie.Need-returns-2
 unfolding deliverAnswer
@@ -60,4 +60,4 @@ returns-passed c =
 pub deliver-answer-spec : {M : Type 1} → statement M
 deliver-answer-spec =
     tie.close
-    (tie.spec counts-requires returns-unknown frame-at-requires returns-sent cast-if3 returns-other-size returns-passed)
+    (tie.spec has-frame-requires returns-unknown frame-at-requires returns-sent cast-if3 returns-other-size returns-passed)

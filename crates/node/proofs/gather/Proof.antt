@@ -13,50 +13,51 @@ use mir.ValLaws.{toZ-ofZ}
 use borrow.Author.Needs.{needs}
 use Rattle.whole.proofs.Loops.{taken-more}
 use Rattle.store.specs.Node.{layoutOf, nodeOf}
-use Rattle.node.specs.declared.Owner.{Owner}
-use Rattle.node.specs.declared.Places.{Places}
-use Rattle.node.specs.Own.{firstPlace, endPlace}
+use Rattle.own.specs.declared.Owner.{Owner}
+use Rattle.own.specs.declared.Places.{Places}
+use Rattle.own.specs.Own.{firstPlace, endPlace}
 use Rattle.node.specs.Closing.{counts, valueIn, instances}
+use Rattle.node.proofs.Turns.{inside}
 use Rattle.node.proofs.Rounds.{counts-known, instancesAhead, instances-begin, instances-turn, instances-skip, instances-other, instances-end}
 use Rattle.node.proofs.gather.Statement.{statement}
 use Rattle.node.proofs.gather.Tie as tie
 
 abbrev Inv-loop : tie.InvT-loop
-Inv-loop node message values₀ c owner g from end n₀ i₀ values n i =
+Inv-loop node message values₀ owner g from end n₀ i₀ values n i =
     (from ≡ firstPlace (layoutOf node) (Owner.Message message)) × (end ≡ endPlace (layoutOf node) (Owner.Message message))
     × (n ≤ 8) × (n + from ≤ i) × (length values ≡ 8)
     × (instances (nodeOf node) message ≡ take n values ++ instancesAhead (nodeOf node) message i)
 
 abbrev μ-loop : tie.MeasureT-loop
-μ-loop node message values₀ c owner g from end n₀ i₀ values n i = end - i
-
-counts-requires : tie.Need-counts-requires Inv-loop μ-loop
-counts-requires c κs = search needs
+μ-loop node message values₀ owner g from end n₀ i₀ values n i = end - i
 
 message-at-requires : tie.Need-message-at-requires Inv-loop μ-loop
 message-at-requires c κs = search needs
 
-own-places-requires : tie.Need-own-places-requires Inv-loop μ-loop
-own-places-requires c κs = search needs
+places-of-requires : tie.Need-places-of-requires Inv-loop μ-loop
+places-of-requires c κs = search needs
 
 loop-holds : tie.Need-loop-holds Inv-loop μ-loop
 loop-holds c =
-    let start = c .before .before .before .before in
+    let start = c .before .before .before in
     let n = nodeOf (start .args .node .now) in
-    let from = ap (λ (p : Places). p .from) (c .own-places .ensures .0) in (
+    let from = ap (λ (p : Places). p .from) (c .places-of .ensures .0) in (
       from,
-      ap (λ (p : Places). p .end) (c .own-places .ensures .0),
+      ap (λ (p : Places). p .end) (c .places-of .ensures .0),
       search needs,
       search needs,
       start .pre .1,
       rw from (instances-begin n (start .args .message)),
     )
 
-own-cell-requires : tie.Need-own-cell-requires Inv-loop μ-loop
-own-cell-requires c κs = search needs
+cell-at-requires : tie.Need-cell-at-requires Inv-loop μ-loop
+cell-at-requires c κs = search needs
+
+owns-requires : tie.Need-owns-requires Inv-loop μ-loop
+owns-requires c κs = (c .cell-at .ensures .1, search needs)
 
 laid-at-requires : tie.Need-laid-at-requires Inv-loop μ-loop
-laid-at-requires c κs = search needs
+laid-at-requires c κs = (inside _ _ (c .before .owns .ensures) (c .if1 .taken), search needs)
 
 does-count-requires : tie.Need-does-count-requires Inv-loop μ-loop
 does-count-requires c κs = search needs
@@ -82,10 +83,11 @@ loop-less c = search needs
 
 loop-again : tie.Need-loop-again Inv-loop μ-loop
 loop-again c =
-    let told = c .before in
+    let asked = c .before in
+    let told = asked .before in
     let loop = told .before .before in
     let read = loop .before .before in
-    let args = read .before .before .before .args in
+    let args = read .before .before .args in
     let node = nodeOf (args .node .now) in
     let m = args .message in
     let i = loop .loop .i in
@@ -105,7 +107,7 @@ loop-again c =
       search needs,
       length-set l n (w .4 .result) ∙ inv .4,
       inv .5
-          ∙ ap (λ (r : List ℤ). take n l ++ r) (instances-turn node m i (omega arith) (told .own-cell .ensures) (w .0 .taken) counting)
+          ∙ ap (λ (r : List ℤ). take n l ++ r) (instances-turn node m i (omega arith) (told .cell-at .ensures .0) (asked .owns .ensures) (w .0 .taken) counting)
           ∙ rw (← value) (taken-more l n (w .4 .result) _ (omega arith)),
     ))
     (⊎-elim
@@ -117,7 +119,7 @@ loop-again c =
       search needs,
       search needs,
       inv .4,
-      inv .5 ∙ ap (λ (r : List ℤ). take n l ++ r) (instances-skip node m i (omega arith) (told .own-cell .ensures) (w .0 .taken) silent),
+      inv .5 ∙ ap (λ (r : List ℤ). take n l ++ r) (instances-skip node m i (omega arith) (told .cell-at .ensures .0) (asked .owns .ensures) (w .0 .taken) silent),
     ))
     (λ w.
     rw (w .1, w .2) (
@@ -126,14 +128,14 @@ loop-again c =
       search needs,
       search needs,
       inv .4,
-      inv .5 ∙ ap (λ (r : List ℤ). take n l ++ r) (instances-other node m i (omega arith) (told .own-cell .ensures) (λ h. omega arith)),
+      inv .5 ∙ ap (λ (r : List ℤ). take n l ++ r) (instances-other node m i (omega arith) (told .cell-at .ensures .0) (asked .owns .ensures) (w .0 .left)),
     )))
     (c .if1 .came)
 
 returns : tie.Need-returns Inv-loop μ-loop
 returns c =
     let loop = c .before in
-    let args = loop .before .before .before .before .before .args in
+    let args = loop .before .before .before .before .args in
     let none = instances-end (nodeOf (args .node .now)) (args .message) (loop .loop .i) (omega arith) in
     (search needs, loop .loop .inv .4, sym (rw (none, append-nil) at (loop .loop .inv .5)))
 
@@ -143,11 +145,11 @@ gather-spec =
     (tie.spec
     Inv-loop
     μ-loop
-    counts-requires
     message-at-requires
-    own-places-requires
+    places-of-requires
     loop-holds
-    own-cell-requires
+    cell-at-requires
+    owns-requires
     laid-at-requires
     does-count-requires
     value-in-requires

@@ -1,38 +1,38 @@
 -- `node::receive_answer` meets its contract: the tests are those of the definition, in its order. Assumes nothing.
-use mathlib.Core.Path.{_≡_, refl, ap}
-use mathlib.Core.Bool.{true}
-use native.Mathlib.Omega.{arith}
+use mathlib.Core.Path.{_≡_, refl}
+use mathlib.Core.Bool.{false, not}
+use Prim.Native.Nat.{_<_}
+use lib.ListN.{length}
 use lib.Dec.{ltb}
-use borrow.Author.Tests.{lt-ltb, le-ltb, eq-eqb, ne-eqb}
+use borrow.Author.Tests.{eq-eqb, ne-eqb}
 use borrow.Author.Needs.{needs}
-use Rattle.layout.specs.declared.Counts.{Counts}
-use Rattle.store.specs.Node.{layoutOf, messageCount}
+use Rattle.store.specs.Node.{nodeSize, layoutOf, messageCount}
 use Rattle.node.specs.Calls.{receiveAnswer}
+use Rattle.node.proofs.Answers.{counted}
 use Rattle.node.proofs.receive_answer.Statement.{statement}
 use Rattle.node.proofs.receive_answer.Tie as tie
-
-counted : (c : tie.After-counts) → c .counts .result .messages ≡ messageCount (layoutOf (c .before .before .args .node .now))
-counted c = ap (λ (r : Counts). r .messages) (c .counts .ensures)
 
 -- past the first test the message is one of the layout
 known : (c : tie.Else1)
     → let a = c .before .before .before .args in
-    ltb (a .message) (messageCount (layoutOf (a .node .now))) ≡ true
-known c =
-    let a = c .before .before .before .args in
-    lt-ltb (a .message) (messageCount (layoutOf (a .node .now))) (omega (arith, counted (c .before)))
+    not (ltb (a .message) (messageCount (layoutOf (a .node .now)))) ≡ false
+known c = rw (c .before .has-message .ensures) at (c .if1 .left)
 
-counts-requires : tie.Need-counts-requires
-counts-requires c κs = search needs
+has-message-requires : tie.Need-has-message-requires
+has-message-requires c κs = search needs
 
 returns-unknown : tie.Need-returns
 unfolding receiveAnswer
-returns-unknown c =
-    let a = c .before .before .before .args in
-    rw (le-ltb (a .message) (messageCount (layoutOf (a .node .now))) (omega (arith, counted (c .before)))) refl
+returns-unknown c = rw (rw (c .before .has-message .ensures) at (c .if1 .taken)) refl
+
+-- past the first test the message has a cell in the memory
+in-cell : (c : tie.Else1) → (c .before .before .before .args .message < 32) × (length (c .before .before .before .args .node .now) ≡ nodeSize)
+in-cell c =
+    let start = c .before .before .before in
+    (counted (start .args .message) (layoutOf (start .args .node .now) .message-number) (c .before .has-message .ensures) (c .if1 .left), start .pre)
 
 message-at-requires : tie.Need-message-at-requires
-message-at-requires c κs = (omega (arith, counted (c .before)), c .before .before .before .pre)
+message-at-requires c κs = in-cell c
 
 returns-sent : tie.Need-returns-2
 unfolding receiveAnswer
@@ -41,9 +41,7 @@ returns-sent c =
     rw (known (read .before), ← read .message-at .ensures, eq-eqb _ _ (c .if2 .taken)) refl
 
 state-at-requires : tie.Need-state-at-requires
-state-at-requires c κs =
-    let number = c .before .before .before in
-    (omega (arith, counted (number .before)), number .before .before .before .pre)
+state-at-requires c κs = in-cell (c .before .before .before)
 
 returns-status : tie.Need-returns-3
 unfolding receiveAnswer
@@ -54,4 +52,4 @@ returns-status c =
 
 pub receive-answer-spec : {M : Type 1} → statement M
 receive-answer-spec =
-    tie.close (tie.spec counts-requires returns-unknown message-at-requires returns-sent state-at-requires returns-status)
+    tie.close (tie.spec has-message-requires returns-unknown message-at-requires returns-sent state-at-requires returns-status)

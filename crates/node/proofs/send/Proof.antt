@@ -1,6 +1,6 @@
 -- `node::send` meets its contract: refused, it leaves the memory; done, the message's fields wait and its state is as its filter left it.
 -- Assumes nothing.
-use mathlib.Core.Path.{_≡_, ap₂, sym, _∙_}
+use mathlib.Core.Path.{_≡_, ap, ap₂, sym, _∙_}
 use Prim.Native.Nat.{_<_}
 use native.Mathlib.Omega.{arith}
 use mir.Syntax.{w64}
@@ -8,7 +8,8 @@ use mir.Val.{toZ, ofZ}
 use mir.ValLaws.{toZ-ofZ}
 use borrow.Author.Needs.{needs}
 use Rattle.store.specs.declared.MessageState.{MessageState}
-use Rattle.store.specs.Node.{Node, layoutOf, nodeOf, withState, nodeWith}
+use Rattle.store.specs.Node.{Node, layoutOf, nodeOf, messageAt, stateAt, withState, nodeWith}
+use Rattle.message.specs.Messages.{offered}
 use Rattle.node.specs.Calls.{sendAnswer, sendOf}
 use Rattle.node.proofs.Answers.{in-memory}
 use Rattle.node.proofs.Outcomes.{untouched, done}
@@ -44,27 +45,29 @@ in-cell c =
     let start = c .before .before .before .before in
     in-memory (start .args .message) (layoutOf (start .args .node .now) .message-number) _ _ (accepted c)
 
-message-at-requires : tie.Need-message-at-requires
-message-at-requires c κs = (in-cell (c .before), search needs)
+cast-owner : tie.Need-cast-t13
+cast-owner c = omega (arith, in-cell c)
 
-state-at-requires : tie.Need-state-at-requires
-state-at-requires c κs = (in-cell (c .before .before .before), search needs)
-
-cast-owner : tie.Need-cast-t17
-cast-owner c = omega (arith, in-cell (c .before .before .before .before))
-
-own-places-requires : tie.Need-own-places-requires
-own-places-requires c κs = (in-cell (c .before .before .before .before .before), search needs)
+places-of-requires : tie.Need-places-of-requires
+places-of-requires c κs = (in-cell (c .before), search needs)
 
 move-fields-requires : tie.Need-move-fields-requires
-move-fields-requires c κs = (c .before .own-places .ensures .0, search needs)
+move-fields-requires c κs = (c .before .places-of .ensures .0, search needs)
+
+message-at-requires : tie.Need-message-at-requires
+message-at-requires c κs = (in-cell (c .before .before .before .before .before .before .before), search needs)
+
+state-at-requires : tie.Need-state-at-requires
+state-at-requires c κs = (in-cell (c .before .before .before .before .before .before .before .before .before), search needs)
 
 offered-state-requires : tie.Need-offered-state-requires
 offered-state-requires c κs = search needs
 
 put-state-requires : tie.Need-put-state-requires
 put-state-requires c κs =
-    (in-cell (c .before .before .before .before .before .before .before .before .before .before .before .before), search needs)
+    let after = c .before .before .before .before .before .before .before in
+    let answer = after .before .before .before .before .before in
+    (in-cell answer, after .node .given ∙ answer .before .before .before .before .pre)
 
 same-length-2 : tie.Need-same-length-2
 same-length-2 c = search needs
@@ -73,15 +76,17 @@ returns-2 : tie.Need-returns-2
 unfolding sendOf
 returns-2 c =
     let put = c .before .before in
-    let move = put .before .before .before .before .before in
-    let state = move .before .before .before .before in
+    let state = put .before .before .before in
     let message = state .before .before in
-    let answer = message .before .before in
+    let move = message .before .before .before .before in
+    let answer = move .before .before .before .before in
     let start = answer .before .before .before .before in
-    let new = rw (back start, message .message-at .ensures, state .state-at .ensures) at (put .before .offered-state .ensures) in
+    let m = start .args .message in
+    let read = rw (back start, message .message-at .ensures, state .state-at .ensures) at (put .before .offered-state .ensures) in
+    let stays = ap (λ (k : Node). offered (messageAt (k .layout) m) (stateAt (k .state) m) (start .args .value)) (move .move-fields .ensures) in
     done _ _ _ (nodeOf (start .args .node .now)) (accepted answer)
     (put .put-state .ensures
-    ∙ ap₂ (λ (k : Node) (s : MessageState). nodeWith k (withState (k .state) (start .args .message) s)) (move .move-fields .ensures) new)
+    ∙ ap₂ (λ (k : Node) (s : MessageState). nodeWith k (withState (k .state) m s)) (move .move-fields .ensures) (read ∙ stays))
 
 pub send-spec : {M : Type 1} → statement M
 send-spec =
@@ -90,11 +95,11 @@ send-spec =
     send-answer-requires
     same-length
     returns
+    cast-owner
+    places-of-requires
+    move-fields-requires
     message-at-requires
     state-at-requires
-    cast-owner
-    own-places-requires
-    move-fields-requires
     offered-state-requires
     put-state-requires
     same-length-2

@@ -15,7 +15,7 @@ sub-result c = search needs
 
 returns-big : tie.Need-returns
 unfolding lowBit
-returns-big c = rw (c .if1 .taken) (refl, omega arith, omega arith)
+returns-big c = rw (c .if1 .taken) (refl, omega arith)
 
 mul-result-2 : tie.Need-mul-result-2
 mul-result-2 c = search needs
@@ -25,7 +25,7 @@ sub-result-2 c = search needs
 
 returns-little : tie.Need-returns-2
 unfolding lowBit
-returns-little c = rw (c .if1 .left) (refl, omega arith, omega arith)
+returns-little c = rw (c .if1 .left) (refl, omega arith)
 
 pub low-bit-spec : {M : Type 1} → statement M
 low-bit-spec = tie.close (tie.spec mul-result sub-result mul-result-2 sub-result-2 returns-big returns-little)

@@ -1,7 +1,7 @@
 -- `packing::window` meets its contract. The loop's invariant: the bytes from byte d on are read. The measure is d.
 -- Assumes nothing.
 use mathlib.Core.Path.{_≡_}
-use Prim.Native.Nat.{ℕ, _-_, _<_, _≤_, _^_}
+use Prim.Native.Nat.{_-_, _<_, _≤_, _^_}
 use native.Mathlib.Omega.{arith}
 use Rattle.whole.specs.Whole.{Bytes}
 use Rattle.packing.specs.Window.{windowOf}

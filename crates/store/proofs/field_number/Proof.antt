@@ -11,12 +11,12 @@ use borrow.Author.Needs.{needs}
 use borrow.Author.Tests.{eq-eqb, ne-eqb}
 use Rattle.record.specs.Numbers.{tally}
 use Rattle.layout.proofs.Tallies.{tally-more}
-use Rattle.store.specs.Start.{names}
+use Rattle.store.specs.Start.{isInstance}
 use Rattle.store.proofs.field_number.Statement.{statement}
 use Rattle.store.proofs.field_number.Tie as tie
 
 abbrev Inv-loop : tie.InvT-loop
-Inv-loop file at fields m t₀ d₀ t d = (d ≤ fields) × (t ≤ d) × (t ≡ tally (names file at m) d)
+Inv-loop file at fields m t₀ d₀ t d = (d ≤ fields) × (t ≤ d) × (t ≡ tally (isInstance file at m) d)
 
 abbrev μ-loop : tie.MeasureT-loop
 μ-loop file at fields m t₀ d₀ t d = fields - d
@@ -45,7 +45,7 @@ loop-again c =
     let turn = c .before .before in
     let loop = turn .before .before in
     let a = loop .before .before .args in
-    let named : ℕ → Bool = names (a .file .now) (a .at) (a .m) in
+    let named : ℕ → Bool = isInstance (a .file .now) (a .at) (a .m) in
     let d = loop .loop .d in
     let t = loop .loop .t in
     let test : named d ≡ eqb (turn .field-at .result .message) (a .m) = rw (← turn .field-at .ensures) refl in

@@ -9,7 +9,7 @@ use borrow.Author.Tests.{eq-eqb, ne-eqb}
 use Rattle.record.proofs.Searches.{none-more, found}
 use Rattle.record.proofs.Tests.{or-clear}
 use Rattle.record.specs.Numbers.{anyBelow, leastBelow}
-use Rattle.store.specs.Start.{names}
+use Rattle.store.specs.Start.{isInstance}
 use Rattle.store.proofs.first_field.Statement.{statement}
 use Rattle.store.proofs.first_field.Tie as tie
 
@@ -20,7 +20,7 @@ none-least p zero e = refl
 none-least p (suc n) e = let none = or-clear (anyBelow p n) (p n) .0 e in rw (none .0, none .1) refl
 
 abbrev Inv-loop : tie.InvT-loop
-Inv-loop file at fields m d₀ d = (d ≤ fields) × (anyBelow (names file at m) d ≡ false)
+Inv-loop file at fields m d₀ d = (d ≤ fields) × (anyBelow (isInstance file at m) d ≡ false)
 
 abbrev μ-loop : tie.MeasureT-loop
 μ-loop file at fields m d₀ d = fields - d
@@ -40,7 +40,7 @@ returns-found c =
     let turn = c .before .before in
     let loop = turn .before .before in
     let a = loop .before .before .args in
-    let named : ℕ → Bool = names (a .file .now) (a .at) (a .m) in
+    let named : ℕ → Bool = isInstance (a .file .now) (a .at) (a .m) in
     let here : named (loop .loop .d) ≡ true = rw (← turn .field-at .ensures) (eq-eqb _ _ (c .if1 .taken)) in
     (sym (found named (loop .loop .d) (a .fields) (loop .loop .inv .1) here (search needs) .least), search needs)
 
@@ -55,7 +55,7 @@ loop-again c =
     let turn = c .before .before in
     let loop = turn .before .before in
     let a = loop .before .before .args in
-    let named : ℕ → Bool = names (a .file .now) (a .at) (a .m) in
+    let named : ℕ → Bool = isInstance (a .file .now) (a .at) (a .m) in
     let here : named (loop .loop .d) ≡ false = rw (← turn .field-at .ensures) (ne-eqb _ _ (c .if1 .left)) in
     (search needs, none-more named (loop .loop .d) (loop .loop .inv .1) here)
 
@@ -64,7 +64,7 @@ returns-none c =
     let loop = c .before in
     let a = loop .before .before .args in
     let e : loop .loop .d ≡ a .fields = omega arith in
-    (sym (none-least (names (a .file .now) (a .at) (a .m)) (a .fields) (rw (← e) (loop .loop .inv .1))), search needs)
+    (sym (none-least (isInstance (a .file .now) (a .at) (a .m)) (a .fields) (rw (← e) (loop .loop .inv .1))), search needs)
 
 pub first-field-spec : {M : Type 1} → statement M
 first-field-spec =

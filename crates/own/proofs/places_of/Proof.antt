@@ -1,0 +1,88 @@
+-- `own::places_of` meets its contract, for a message and for a frame. Assumes nothing.
+use native.Mathlib.Omega.{arith}
+use borrow.Author.Needs.{needs}
+use Rattle.own.proofs.places_of.Statement.{statement}
+use Rattle.own.proofs.places_of.Tie as tie
+
+enum-known-owner : tie.Need-enum-known-owner
+enum-known-owner c = search needs
+
+cast-message-at : tie.Need-cast-message-at
+cast-message-at c = search needs
+
+message-at-requires : tie.Need-message-at-requires
+message-at-requires c κs =
+    let start = c .before .before .before .before in
+    (rw (c .before .owner .given .1) at (start .pre .0), start .pre .1)
+
+cast-from : tie.Need-cast-from
+cast-from c = search needs
+
+cast-least : tie.Need-cast-least
+cast-least c = search needs
+
+least-requires : tie.Need-least-requires
+least-requires c κs = search needs
+
+add-least : tie.Need-add-least
+add-least c = search needs
+
+least-requires-2 : tie.Need-least-requires-2
+least-requires-2 c κs = search needs
+
+enum-known-owner-2 : tie.Need-enum-known-owner-2
+enum-known-owner-2 c = search needs
+
+cast-frame-at : tie.Need-cast-frame-at
+cast-frame-at c = search needs
+
+frame-at-requires : tie.Need-frame-at-requires
+frame-at-requires c κs =
+    let start = c .before .before .before .before in
+    (rw (c .before .owner2 .given .1) at (start .pre .0), start .pre .1)
+
+cast-from-2 : tie.Need-cast-from-2
+cast-from-2 c = search needs
+
+cast-least-2 : tie.Need-cast-least-2
+cast-least-2 c = search needs
+
+add-least-2 : tie.Need-add-least-2
+add-least-2 c = search needs
+
+least-requires-3 : tie.Need-least-requires-3
+least-requires-3 c κs = search needs
+
+returns : tie.Need-returns
+returns c =
+    let read = c .before .before .before .before in
+    let owner = read .before .before .owner .given .1 in
+    (rw (owner, c .least2 .ensures, c .before .least .ensures) (rw (read .message-at .ensures)), omega arith)
+
+returns-2 : tie.Need-returns-2
+returns-2 c =
+    let read = c .before .before .before in
+    let owner = read .before .before .owner2 .given .1 in
+    (rw (owner, c .least3 .ensures) (rw (read .frame-at .ensures)), omega arith)
+
+pub places-of-spec : {M : Type 1} → statement M
+places-of-spec =
+    tie.close
+    (tie.spec
+    enum-known-owner
+    cast-message-at
+    message-at-requires
+    cast-from
+    cast-least
+    least-requires
+    add-least
+    least-requires-2
+    enum-known-owner-2
+    cast-frame-at
+    frame-at-requires
+    cast-from-2
+    cast-least-2
+    add-least-2
+    least-requires-3
+    returns
+    returns-2)

@@ -1,7 +1,8 @@
 /*
- * Plays one call so many times on the library or on the fast twin, for speed/count to count its instructions: count library|twin CALL OPTION TIMES.
- * CALL is send, assemble, consumed or nothing; OPTION is the message's filter for send, else whether it has a status bit (1) and the frame is an event frame (2).
- * The layout has a frame of two bytes that carries one message of ten bits, from bit 3 on.
+ * Plays one call so many times on one side, for speed/count to count its instructions: count library|gcc|clang CALL OPTION TIMES; gcc and clang are the builds
+ * of the fast twin. The layout has one message of ten bits. For send, assemble and consumed it is sent in one frame, of two bytes and from bit 3 on, and OPTION is
+ * the message's filter for send, else whether it has a status bit (1) and the frame is an event frame (2). For deliver and round it is received, and OPTION is
+ * the number of such frames: deliver delivers each, and round delivers each and closes.
  */
 #include "fast.h"
 
@@ -9,59 +10,113 @@
 #include <stdlib.h>
 #include <string.h>
 
-static mondgurt_node node;
-static fast_node twin;
-static uint8_t data[2];
+FAST_CALLS(gcc)
+FAST_CALLS(clang)
+typedef fast_node gcc_node, clang_node;
 
-static unsigned nothing(int on_twin)
+static uint8_t data[2], file[24 * (8 + 1 + 8)];
+static size_t length;
+static unsigned frames;
+
+enum call { NOTHING, SEND, ASSEMBLE, CONSUMED, DELIVER, ROUND, CALLS };
+
+static const char *const names[CALLS] = {"nothing", "send", "assemble", "consumed", "deliver", "round"};
+
+typedef unsigned play(void);
+
+static unsigned play_nothing(void)
 {
-    return (unsigned)on_twin;
+    return 0;
 }
 
-static unsigned send(int on_twin)
+#define PLAY(side, name, call)               \
+    static unsigned side##_play_##name(void) \
+    {                                        \
+        return call;                         \
+    }
+
+#define SIDE(side)                                                                                                                 \
+    static side##_node side##_start;                                                                                               \
+    static unsigned side##_play_deliver(void)                                                                                      \
+    {                                                                                                                              \
+        unsigned answers = 0;                                                                                                      \
+        for (unsigned f = 0; f < frames; f++)                                                                                      \
+            answers += side##_deliver(&side##_start, f, 1, data, sizeof data);                                                     \
+        return answers;                                                                                                            \
+    }                                                                                                                              \
+    PLAY(side, send, side##_send(&side##_start, 0, 677))                                                                           \
+    PLAY(side, assemble, side##_assemble(&side##_start, 0, data, sizeof data))                                                     \
+    PLAY(side, consumed, side##_consumed(&side##_start, 0))                                                                        \
+    PLAY(side, round, (side##_play_deliver(), side##_close(&side##_start)))                                                        \
+    static play *const side##_plays[CALLS] = {play_nothing,         side##_play_send,    side##_play_assemble, \
+                                              side##_play_consumed, side##_play_deliver, side##_play_round};
+
+SIDE(mondgurt)
+SIDE(gcc)
+SIDE(clang)
+
+static enum call call_named(const char *name)
 {
-    return on_twin ? fast_send(&twin, 0, 677) : mondgurt_send(&node, 0, 677);
+    enum call call = NOTHING;
+
+    while (call < ROUND && strcmp(name, names[call]) != 0)
+        call++;
+    return call;
 }
 
-static unsigned assemble(int on_twin)
+static uint8_t *record(unsigned kind, unsigned number)
 {
-    return on_twin ? fast_assemble(&twin, 0, data, sizeof data) : mondgurt_assemble(&node, 0, data, sizeof data);
+    uint8_t *r = file + length;
+
+    length += 24;
+    r[0] = (uint8_t)kind;
+    r[1] = (uint8_t)number;
+    return r;
 }
 
-static unsigned consumed(int on_twin)
+static void write_layout(enum call call, unsigned option)
 {
-    return on_twin ? fast_consumed(&twin, 0) : mondgurt_consumed(&node, 0);
+    int received = call >= DELIVER;
+    int event = !received && call != SEND && option == 2, status = !received && option != 0;
+
+    frames = received ? option : 1;
+    for (unsigned f = 0; f < frames; f++) {
+        uint8_t *r = record(1, f);
+        r[2] = sizeof data;
+        r[4] = !received;
+        r[5] = (uint8_t)event;
+    }
+    uint8_t *g = record(2, 0);
+    g[2] = 10;
+    g[4] = !received;
+    g[6] = call == SEND ? (uint8_t)option : 0;
+    if (g[6] == 8) { /* from x1, 0, to x2, 1,023 */
+        g[12] = 255;
+        g[13] = 3;
+    }
+    for (unsigned f = 0; f < frames; f++) {
+        uint8_t *r = record(3, 0);
+        r[2] = (uint8_t)f;
+        r[3] = 3;
+        r[4] = (uint8_t)status;
+        r[5] = status ? 13 : 0;
+    }
 }
 
 int main(int count, char **word)
 {
     if (count != 5)
         return 2;
-    int on_twin = strcmp(word[1], "twin") == 0;
+    play *const *plays = strcmp(word[1], "gcc") == 0 ? gcc_plays : strcmp(word[1], "clang") == 0 ? clang_plays : mondgurt_plays;
+    enum call call = call_named(word[2]);
     unsigned option = (unsigned)atoi(word[3]);
-    unsigned (*call)(int) = strcmp(word[2], "send") == 0       ? send
-                            : strcmp(word[2], "assemble") == 0 ? assemble
-                            : strcmp(word[2], "consumed") == 0 ? consumed
-                                                               : nothing;
-    uint8_t file[72] = {1, 0, 2, 0, 1, call != send && option == 2};
     unsigned long answers = 0;
 
-    file[24] = 2;
-    file[26] = 10;
-    file[28] = 1;
-    file[30] = call == send ? (uint8_t)option : 0;
-    if (file[30] == 8) { /* from x1, 0, to x2, 1,023 */
-        file[36] = 255;
-        file[37] = 3;
-    }
-    file[48] = 3;
-    file[51] = 3;
-    file[52] = option != 0;
-    file[53] = option ? 13 : 0;
-    if (mondgurt_load(&node, file, sizeof file) || fast_load(&twin, file, sizeof file))
+    write_layout(call, option);
+    if (mondgurt_load(&mondgurt_start, file, length) || gcc_load(&gcc_start, file, length) || clang_load(&clang_start, file, length))
         return 1;
     for (long times = atol(word[4]); times > 0; times--)
-        answers += call(on_twin);
+        answers += plays[call]();
     printf("%lu %d %d\n", answers, data[0], data[1]);
     return 0;
 }

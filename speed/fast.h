@@ -7,7 +7,7 @@
 typedef struct {
     uint8_t length, big, sent, event;
     uint8_t first; /* its first field, the others by next; FAST_NONE ends */
-    uint8_t data[32];
+    uint8_t data[40]; /* 32 and a margin, so that eight can be read from each of them on */
 } fast_frame;
 
 typedef struct {
@@ -37,14 +37,16 @@ typedef struct {
     fast_field field[128];
 } fast_node;
 
-uint32_t fast_load(fast_node *node, const uint8_t *file, size_t length);
-uint8_t fast_send(fast_node *node, uint64_t message, int64_t value);
-uint8_t fast_invalidate(fast_node *node, uint64_t message);
-uint8_t fast_assemble(fast_node *node, uint64_t frame, uint8_t *data, size_t length);
-uint8_t fast_consumed(fast_node *node, uint64_t frame);
-uint8_t fast_read_flag(const fast_node *node, uint64_t message, uint8_t *flag);
-uint8_t fast_deliver(fast_node *node, uint64_t frame, uint8_t valid, const uint8_t *data, size_t length);
-uint8_t fast_close(fast_node *node);
-uint8_t fast_receive(const fast_node *node, uint64_t message, int64_t *value);
+/* speed/twin compiles fast.c by two compilers and names their calls gcc_load, clang_load and so on. */
+#define FAST_CALLS(build)                                                                                                         \
+    uint32_t build##_load(fast_node *node, const uint8_t *file, size_t length);                                                   \
+    uint8_t build##_send(fast_node *node, uint64_t message, int64_t value);                                                       \
+    uint8_t build##_invalidate(fast_node *node, uint64_t message);                                                                \
+    uint8_t build##_assemble(fast_node *node, uint64_t frame, uint8_t *data, size_t length);                                      \
+    uint8_t build##_consumed(fast_node *node, uint64_t frame);                                                                    \
+    uint8_t build##_read_flag(const fast_node *node, uint64_t message, uint8_t *flag);                                            \
+    uint8_t build##_deliver(fast_node *node, uint64_t frame, uint8_t valid, const uint8_t *data, size_t length);                  \
+    uint8_t build##_close(fast_node *node);                                                                                       \
+    uint8_t build##_receive(const fast_node *node, uint64_t message, int64_t *value);
 
 #endif

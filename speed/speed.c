@@ -1,6 +1,6 @@
 /*
- * Plays the same inputs on the library and on the fast twin. First random layouts and calls, which are only compared; then the table: ns a call of
- * each, and the ratio. Every answer, buffer and place is compared, in the timed runs too; a difference ends the program.
+ * Plays the same inputs on the library and on both builds of the fast twin. First random layouts and calls, which are only compared; then the table: ns a
+ * call of each, and the library's ratio to the faster build. Every answer, buffer and place is compared, in the timed runs too; a difference ends the program.
  */
 #define _POSIX_C_SOURCE 199309L
 #include "fast.h"
@@ -169,7 +169,7 @@ static void put_floats(const struct layout *l, const struct shape *s, unsigned f
             put_bits(data, l->big[f], l->start[m][f], (uint32_t)random_float(l));
 }
 
-/* ---- the two sides */
+/* ---- the three sides */
 
 /* What a call takes, and the places that it writes. */
 struct input {
@@ -214,8 +214,15 @@ typedef uint64_t play(void *nodes, size_t count, struct input *inputs, size_t n)
                                               side##_play_consumed, side##_play_read_flag, side##_play_deliver,    side##_play_close,    \
                                               side##_play_receive};
 
+FAST_CALLS(gcc)
+FAST_CALLS(clang)
+typedef fast_node gcc_node, clang_node;
+
 SIDE(mondgurt)
-SIDE(fast)
+SIDE(gcc)
+SIDE(clang)
+
+enum { LIBRARY, GCC, CLANG, SIDES };
 
 /* start is the node that the calls so far have led to; nodes are copies of it for the timed runs. */
 static struct side {
@@ -224,9 +231,10 @@ static struct side {
     size_t size;
     struct input inputs[INPUTS];
     double ns[REPEATS];
-} sides[2] = {
-    {.plays = mondgurt_plays, .start = &mondgurt_start, .nodes = mondgurt_nodes, .size = sizeof mondgurt_start},
-    {.plays = fast_plays, .start = &fast_start, .nodes = fast_nodes, .size = sizeof fast_start},
+} sides[SIDES] = {
+    [LIBRARY] = {.plays = mondgurt_plays, .start = &mondgurt_start, .nodes = mondgurt_nodes, .size = sizeof mondgurt_start},
+    [GCC] = {.plays = gcc_plays, .start = &gcc_start, .nodes = gcc_nodes, .size = sizeof gcc_start},
+    [CLANG] = {.plays = clang_plays, .start = &clang_start, .nodes = clang_nodes, .size = sizeof clang_start},
 };
 
 /* The inputs of the next calls; the sides play on copies. */
@@ -238,18 +246,25 @@ static void differ(enum call call)
     exit(1);
 }
 
-/* Plays the inputs on both start nodes, and answers the sum of the answers. */
-static uint64_t both(enum call call, size_t n)
+/* Each side has played the first n inputs, with these sums of the answers. */
+static void compare_sides(enum call call, const uint64_t sum[SIDES], size_t n)
 {
-    uint64_t sum[2];
+    for (int k = GCC; k < SIDES; k++)
+        if (sum[k] != sum[LIBRARY] || memcmp(sides[k].inputs, sides[LIBRARY].inputs, n * sizeof inputs[0]) != 0)
+            differ(call);
+}
 
-    for (int k = 0; k < 2; k++) {
+/* Plays the inputs on all start nodes, and answers the sum of the answers. */
+static uint64_t all(enum call call, size_t n)
+{
+    uint64_t sum[SIDES];
+
+    for (int k = 0; k < SIDES; k++) {
         memcpy(sides[k].inputs, inputs, n * sizeof inputs[0]);
         sum[k] = sides[k].plays[call](sides[k].start, 1, sides[k].inputs, n);
     }
-    if (sum[0] != sum[1] || memcmp(sides[0].inputs, sides[1].inputs, n * sizeof inputs[0]) != 0)
-        differ(call);
-    return sum[0];
+    compare_sides(call, sum, n);
+    return sum[LIBRARY];
 }
 
 /* ---- comparing */
@@ -303,19 +318,19 @@ static void compare(unsigned layouts, unsigned calls)
         struct shape s = random_shape();
         write_layout(&l, &s);
         inputs[0] = (struct input){.file = l.file, .length = l.length};
-        if (both(LOAD, 1) != 0)
+        if (all(LOAD, 1) != 0)
             differ(LOAD);
         for (unsigned c = 0; c < calls; c++) {
             inputs[0] = random_input(&l, &s);
             enum call call = random_call(&s);
-            uint64_t answer = both(call, 1);
+            uint64_t answer = all(call, 1);
             seen[answer]++;
             if (call == RECEIVE && inputs[0].number < s.messages && l.is_float[inputs[0].number])
                 floats[answer]++;
         }
         l.file[random_below(l.length)] ^= 1 << random_below(8);
         inputs[0] = (struct input){.file = l.file, .length = random_below(8) ? l.length : random_below(l.length)};
-        refused[MONDGURT_REFUSAL(both(LOAD, 1))]++;
+        refused[MONDGURT_REFUSAL(all(LOAD, 1))]++;
     }
     printf("%u layouts, %u calls: no difference.\nAnswers 0 and 16 to 23:", layouts, layouts * calls);
     for (unsigned answer = 0; answer < 24; answer += answer ? 1 : 16)
@@ -357,35 +372,35 @@ static double undisturbed(double *ns)
 /* Plays the inputs on copies of the start nodes, the sides in turn, and takes the time. */
 static void repeat(enum call call, size_t nodes, size_t n)
 {
-    uint64_t sum[2];
+    uint64_t sum[SIDES];
 
     for (int r = 0; r < REPEATS; r++) {
-        for (int k = 0; k < 2; k++) {
-            struct side *s = &sides[(k + r) % 2];
+        for (int k = 0; k < SIDES; k++) {
+            struct side *s = &sides[(k + r) % SIDES];
             for (size_t i = 0; i < nodes; i++)
                 memcpy((uint8_t *)s->nodes + i * s->size, s->start, s->size);
             memcpy(s->inputs, inputs, sizeof inputs);
             double began = now_ns();
-            sum[(k + r) % 2] = s->plays[call](s->nodes, nodes, s->inputs, n);
+            sum[(k + r) % SIDES] = s->plays[call](s->nodes, nodes, s->inputs, n);
             s->ns[r] = now_ns() - began;
         }
-        if (sum[0] != sum[1] || memcmp(sides[0].inputs, sides[1].inputs, sizeof inputs) != 0)
-            differ(call);
+        compare_sides(call, sum, INPUTS);
     }
 }
 
 static void row(enum call call, const char *what, size_t n)
 {
     size_t nodes = call == LOAD ? 2 : NODES; /* a loading is long */
-    double empty[2], ns[2];
+    double empty[SIDES], ns[SIDES];
 
     repeat(call, nodes, 0);
-    for (int k = 0; k < 2; k++)
+    for (int k = 0; k < SIDES; k++)
         empty[k] = undisturbed(sides[k].ns);
     repeat(call, nodes, n);
-    for (int k = 0; k < 2; k++)
+    for (int k = 0; k < SIDES; k++)
         ns[k] = (undisturbed(sides[k].ns) - empty[k]) / (double)(nodes * n);
-    printf("| %s | %s | %.1f | %.1f | %.2f |\n", names[call], what, ns[0], ns[1], ns[0] / ns[1]);
+    double faster = ns[GCC] < ns[CLANG] ? ns[GCC] : ns[CLANG];
+    printf("| %s | %s | %.1f | %.1f | %.1f | %.2f |\n", names[call], what, ns[LIBRARY], ns[GCC], ns[CLANG], ns[LIBRARY] / faster);
 }
 
 /* ---- the rows */
@@ -395,7 +410,7 @@ static struct layout layout;
 static void load_file(void)
 {
     inputs[0] = (struct input){.file = layout.file, .length = layout.length};
-    if (both(LOAD, 1) != 0)
+    if (all(LOAD, 1) != 0)
         differ(LOAD);
 }
 
@@ -430,10 +445,10 @@ static void sending_rows(struct shape s)
     load(&s);
     row(LOAD, s.name, 1);
     row(SEND, s.name, each_message(&s));
-    both(SEND, s.messages);
+    all(SEND, s.messages);
     row(READ_FLAG, s.name, s.messages);
     row(ASSEMBLE, s.name, each_frame(&s, 0));
-    both(ASSEMBLE, s.frames);
+    all(ASSEMBLE, s.frames);
     row(CONSUMED, s.name, s.frames);
     s.kind = EVENT;
     load(&s);
@@ -445,9 +460,9 @@ static void receiving_rows(struct shape s)
     s.direction = RECEIVED;
     load(&s);
     row(DELIVER, s.name, each_frame(&s, 255));
-    both(DELIVER, s.frames);
+    all(DELIVER, s.frames);
     row(CLOSE, s.name, 1);
-    both(CLOSE, 1);
+    all(CLOSE, 1);
     row(RECEIVE, s.name, each_message(&s));
 }
 
@@ -456,7 +471,7 @@ static void refusal_row(enum call call, const char *what, size_t n, uint64_t add
 {
     for (size_t i = 0; i < n; i++)
         inputs[i].number += add;
-    if (both(call, n) != n * answer)
+    if (all(call, n) != n * answer)
         differ(call);
     row(call, what, n);
 }
@@ -518,14 +533,14 @@ static void closing_rows(struct shape s)
     row(CLOSE, "nothing delivered", 1);
     s.kind = EVENT;
     load(&s);
-    both(DELIVER, each_frame(&s, 0));
+    all(DELIVER, each_frame(&s, 0));
     row(CLOSE, "no instance counts", 1);
     s.kind = PLAIN;
     load(&s);
     for (size_t i = each_frame(&s, 0); i-- > 0;)
         for (int k = 0; k < 32; k++)
             inputs[i].data[k] = random_below(256);
-    both(DELIVER, s.frames);
+    all(DELIVER, s.frames);
     row(CLOSE, "instances differ", 1);
 }
 
@@ -557,12 +572,12 @@ static void aligned_row(const char *what, unsigned sign, unsigned agreement)
             memcpy(&pattern, &number, sizeof pattern);
             put_word(inputs[f].data + m / 2 * 4, pattern);
         }
-    both(DELIVER, s.frames);
+    all(DELIVER, s.frames);
     row(CLOSE, s.name, 1);
-    both(CLOSE, 1);
+    all(CLOSE, 1);
     for (unsigned m = 0; m < s.messages; m++)
         inputs[m] = (struct input){.number = m};
-    if (both(RECEIVE, s.messages) != 0)
+    if (all(RECEIVE, s.messages) != 0)
         differ(RECEIVE);
 }
 
@@ -611,13 +626,13 @@ static void frame_rows(void)
 
     for (int k = 0; k < 6; k++) {
         struct shape s = load_by_frame(1u << k, 1, 0);
-        both(SEND, each_message(&s));
+        all(SEND, each_message(&s));
         row(ASSEMBLE, numbers[k], each_frame(&s, 0));
     }
     for (int k = 0; k < 6; k++) {
         struct shape s = load_by_frame(1u << k, 1, 0);
-        both(SEND, each_message(&s));
-        both(ASSEMBLE, each_frame(&s, 0));
+        all(SEND, each_message(&s));
+        all(ASSEMBLE, each_frame(&s, 0));
         row(CONSUMED, numbers[k], s.frames);
     }
     for (int k = 0; k < 6; k++) {
@@ -632,7 +647,7 @@ static void frame_rows(void)
 
 static void heading(const char *what)
 {
-    printf("| Call | %s | library, ns | fast twin, ns | ratio |\n|---|---|---|---|---|\n", what);
+    printf("| Call | %s | library, ns | fast twin by gcc, ns | by clang, ns | ratio to the faster |\n|---|---|---|---|---|---|\n", what);
 }
 
 int main(void)
@@ -673,7 +688,7 @@ int main(void)
     for (int k = 0; k < 4; k++) {
         struct shape s = {.name = numbers[k], .frames = 32, .bytes = 32, .messages = 16, .fields = 1u << k, .direction = RECEIVED};
         load(&s);
-        both(DELIVER, each_frame(&s, 255));
+        all(DELIVER, each_frame(&s, 255));
         row(CLOSE, s.name, 1);
     }
     printf("\n");

@@ -2,6 +2,7 @@ pub mod Turns
 pub mod Group
 pub mod Quotient
 pub mod Vote
+pub mod Counted
 pub mod Average
 pub mod Order
 pub mod Running

@@ -3,20 +3,20 @@
 -- is none since that is carried by no instance. At most one value is ahead, so that any two outcomes of one vote are the same.
 -- Assumes nothing.
 use mathlib.Core.Path.{_≡_, refl, ap, sym, subst, _∙_}
-use mathlib.Core.Bool.{Bool, true, false, cond, true≢false, and-eq-true-iff}
+use mathlib.Core.Bool.{Bool, true, false, cond, _||_, true≢false, or-true, and-eq-true-iff}
 use mathlib.Core.List.{List, [], _∷_}
 use mathlib.Core.Logic.{_↔_, _⊎_, inl, inr, ⊎-elim}
 use Prim.Native.Nat.{_+_, _<_}
 use native.Mathlib.Omega.{arith}
 use native.Mathlib.Decide.{decLt}
+use lib.Dec.{ltb}
 use lib.IntN.{ℤ, pos, negsuc, pos-ne-negsuc, ℤ-discrete}
-use borrow.Author.Tests.{ltb-true}
+use borrow.Author.Tests.{ltb-true, lt-ltb}
 use Rattle.whole.specs.Whole.{eqZ, allOf}
 use Rattle.whole.proofs.Integers.{eqZ-true, eqZ-same, eqZ-other}
 use Rattle.agreement.specs.declared.Agreed.{Agreed}
 use Rattle.agreement.specs.declared.Agreed.the-variants.{Value, NoResult}
 use Rattle.agreement.specs.Agreement.{countOf, Ahead, ahead, oneThat, vote}
-use Rattle.agreement.proofs.Turns.{behind, behind-itself, behind-fewer}
 
 -- ---- tests over the instances, which are the values that are carried at least once
 
@@ -57,9 +57,13 @@ finding p (x ∷ l) = go (p x) refl (oneThat p l) (finding p l)
 
 -- ---- who is ahead
 
-ahead-carried : (l : List ℤ) (v : ℤ) → Ahead l v → 0 < countOf v l
+pub ahead-carried : (l : List ℤ) (v : ℤ) → Ahead l v → 0 < countOf v l
 ahead-carried l (pos n) h = omega (arith, h (negsuc 0) (λ e. pos-ne-negsuc n 0 (sym e)))
 ahead-carried l (negsuc n) h = omega (arith, h (pos 0) (pos-ne-negsuc 0 n))
+
+-- the test of u against v: u is v itself or is carried by fewer instances
+abbrev behind : List ℤ → ℤ → ℤ → Bool
+behind l v u = eqZ u v || ltb (countOf u l) (countOf v l)
 
 -- an instance that passes the test is ahead
 test-ahead : (l : List ℤ) (v : ℤ) → 0 < countOf v l → ahead l v ≡ true → Ahead l v
@@ -76,8 +80,8 @@ unfolding ahead
 ahead-test l v h = all-pass (behind l v) l (λ u. go u (ℤ-discrete u v))
   where
     go : (u : ℤ) → Dec (u ≡ v) → behind l v u ≡ true
-    go u (yes e) = behind-itself l v u (eqZ-same u v e)
-    go u (no n) = behind-fewer l v u (h u n)
+    go u (yes e) = rw (eqZ-same u v e) refl
+    go u (no n) = rw (lt-ltb (countOf u l) (countOf v l) (h u n)) (or-true (eqZ u v))
 
 -- at most one value is ahead
 pub one-ahead : (l : List ℤ) (v w : ℤ) → Ahead l v → Ahead l w → v ≡ w

@@ -5,7 +5,7 @@ ghost use Prim.Native.Nat.{_≤_, _^_};
 ghost use lib.IntN.{natAbs};
 ghost use lib.ListN.{length, take};
 ghost use Rattle.whole.specs.Whole.{allOf};
-ghost use Rattle.agreement.specs.Agreement.{messageValue, group, sumOf, average, pickAny, countOf, ahead, vote, agreed};
+ghost use Rattle.agreement.specs.Agreement.{messageValue, group, sumOf, average, pickAny, countOf, vote, agreed};
 ghost use Rattle.agreement.specs.Floats.{leftOf, floatMean, floatsAgreed};
 use float::FloatMean;
 
@@ -77,33 +77,30 @@ fn count_of(instances: &[i64], value: i64) -> usize
     c
 }
 
-// Whether every other instance's value is carried by fewer instances than this one.
-fn is_ahead(instances: &[i64], value: i64) -> bool
-    ensures { λ r. ⌜ r ≡ ahead (now (instances .entry)) value ⌝ }
-{
-    let c = count_of(instances, value);
-    for j in 0..instances.len() {
-        let u = instances[j];
-        if u != value {
-            if c <= count_of(instances, u) {
-                return false;
-            }
-        }
-    }
-    true
-}
-
-// The value that is ahead of every other.
+// The value that is ahead of every other. Each instance's value is counted from there on: all of it where it stands first, and where it stands again
+// too few to change anything. The count ends when fewer instances are left than one value has.
 fn voted(instances: &[i64]) -> Agreed
     ensures { λ r. ⌜ r ≡ vote (now (instances .entry)) ⌝ }
 {
-    for i in 0..instances.len() {
+    let n = instances.len();
+    let mut most: usize = 0;
+    let mut ahead = Agreed::NoResult;
+    for i in 0..n {
+        if n - i < most {
+            break;
+        }
         let v = instances[i];
-        if is_ahead(instances, v) {
-            return Agreed::Value(v);
+        let c = count_of(&instances[i..], v);
+        if most <= c {
+            if most == c {
+                ahead = Agreed::NoResult;
+            } else {
+                most = c;
+                ahead = Agreed::Value(v);
+            }
         }
     }
-    Agreed::NoResult
+    ahead
 }
 
 // What the agreement of that number makes of the instances.

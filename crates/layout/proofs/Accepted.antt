@@ -106,7 +106,7 @@ module _ (s : List ℕ) (F M D : ℕ) (w : Kinds s F M D) where
             },
       )
 
-  frame-passes : (f : ℕ) → f < F → (failsAt s f ≡ false) ↔ FrameRecord s f f
+  pub frame-passes : (f : ℕ) → f < F → (failsAt s f ≡ false) ↔ FrameRecord s f f
   unfolding failsAt
   frame-passes f l =
       let kind = w .frames f l in
@@ -116,7 +116,7 @@ module _ (s : List ℕ) (F M D : ℕ) (w : Kinds s F M D) where
         λ r. (λ k. r .number, omega arith, frame-right s f f kind .1 r .1),
       ))
 
-  message-passes : (m : ℕ) → m < M → (failsAt s (F + m) ≡ false) ↔ MessageRecord s (F + m) m
+  pub message-passes : (m : ℕ) → m < M → (failsAt s (F + m) ≡ false) ↔ MessageRecord s (F + m) m
   unfolding failsAt
   message-passes m l =
       let kind = w .messages m l in

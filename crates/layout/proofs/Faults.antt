@@ -10,7 +10,6 @@ use native.Mathlib.Omega.{arith}
 use native.Mathlib.Decide.{ℕ-discrete}
 use lib.Dec.{eqb, ltb}
 use lib.ListN.{length, getD}
-use lib.Seq.{getD-set-other}
 use borrow.Author.Tests.{ne-eqb}
 use Rattle.record.specs.Records.{byteAt, isFrame, isMessage, isField, frameAt, messageAt, fieldAt, pairBelow}
 use Rattle.ranges.specs.Ranges.{
@@ -38,6 +37,7 @@ use Rattle.record.specs.declared.Field.{Field}
 use Rattle.ranges.specs.declared.Fault.{Fault}
 use Rattle.ranges.specs.declared.Finding.{Finding}
 use Rattle.ranges.proofs.Lowest.{wrong-if-right, Right, list-right}
+use Rattle.ranges.proofs.Walk.{byte-seven}
 use Rattle.record.proofs.Tests.{or-holds, meanings}
 use Rattle.layout.specs.Counts.{frameNumbered, messageNumbered}
 use Rattle.layout.specs.Verdict.{orderFault, refFault, isFieldOf, fieldsOf, unlike, groupFault, clashAt, placeFault}
@@ -95,20 +95,6 @@ filter-right g =
       λ h. record { filter = h .0; float-filter = λ e. simp meanings (h .1 e) },
       λ w. (w .filter, λ e. simp meanings at (w .float-filter e)),
     )
-
--- of the bytes that are not named, byte 7 alone stands in the list of what is found in a message
-byte-seven :
-    (g : Message) (other : ℕ → Bool) (k : ℕ)
-    → getD (messageFindings g (other k)) k (wrongIf (other k) Fault.Reserved) ≡ getD (messageFindings g (other 7)) k (wrongIf (other k) Fault.Reserved)
-byte-seven g other k = go (ℕ-discrete k 7)
-  where
-    go :
-        Dec (k ≡ 7)
-        → getD (messageFindings g (other k)) k (wrongIf (other k) Fault.Reserved)
-        ≡ getD (messageFindings g (other 7)) k (wrongIf (other k) Fault.Reserved)
-    go (yes e) = rw e (ap (λ j. wrongIf (other j) Fault.Reserved) e)
-    go (no n) =
-        getD-set-other (messageFindings g (other 7)) 7 k (wrongIf (other k) Fault.Reserved) (wrongIf (other k) Fault.Reserved) n
 
 module _ (s : List ℕ) (i : ℕ) where
   -- where l lists what is found at a record's bytes

@@ -4,7 +4,6 @@ pub mod Examples
 pub mod Faults
 pub mod Node
 pub mod Numbers
-pub mod Reading
 pub mod Refused
 pub mod Runs
 pub mod Sorted

@@ -40,7 +40,7 @@ use Rattle.layout.proofs.Faults.{order-clear}
 
 -- ---- the tests of a record
 
-passes : (s : List ℕ) (i : ℕ) → (failsAt s i ≡ false) ↔ Passes s i (countsBefore s i)
+pub passes : (s : List ℕ) (i : ℕ) → (failsAt s i ≡ false) ↔ Passes s i (countsBefore s i)
 unfolding failsAt fails
 passes s i = simp (meanings, range-right) (λ h. search, λ w. search)
 

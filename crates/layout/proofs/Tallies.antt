@@ -5,7 +5,6 @@ use mathlib.Core.Bool.{Bool, true, false, cond, true≢false}
 use mathlib.Core.Logic.{_↔_}
 use Prim.Native.Nat.{ℕ, zero, suc, _+_, _-_, _*_, _<_, _≤_}
 use native.Mathlib.Nat.{add-zero, add-suc, zero-add, mul-one, mul-zero}
-use native.Mathlib.Numerals.{add-one}
 use native.Mathlib.Omega.{arith}
 use Rattle.record.specs.Numbers.{tally}
 use Rattle.record.proofs.Tests.{to-last}
@@ -62,19 +61,11 @@ tally-most p x a (suc d) low = rw add-suc (go (p (a + d)) refl (tally-most p x a
           λ most. to-last (λ k. Fewer p x (a + k)) d (earlier .1 (omega arith)) (λ t. absurd (true≢false (sym t ∙ e))),
         )
 
--- ---- a loop that counts
-
-module _ (p : ℕ → Bool) where
-  -- t of the numbers below k pass; r is 1 or 0 by the test of k
-  pub tally-more : (k : ℕ) {t r : ℕ} {b : Bool} → t ≡ tally p k → b ≡ p k → r ≡ cond b 1 0 → t + r ≡ tally p (k + 1)
-  unfolding tally
-  tally-more k before test here = rw (add-one, before, here, test) refl
-
-  pub tally-within : (n : ℕ) → tally p n ≤ n
-  unfolding tally
-  tally-within zero = omega arith
-  tally-within (suc n) = one-more (p n) (tally-within n)
-    where
-      one-more : (b : Bool) → tally p n ≤ n → tally p n + cond b 1 0 ≤ suc n
-      one-more true h = omega arith
-      one-more false h = omega arith
+pub tally-within : (p : ℕ → Bool) (n : ℕ) → tally p n ≤ n
+unfolding tally
+tally-within p zero = omega arith
+tally-within p (suc n) = one-more (p n) (tally-within p n)
+  where
+    one-more : (b : Bool) → tally p n ≤ n → tally p n + cond b 1 0 ≤ suc n
+    one-more true h = omega arith
+    one-more false h = omega arith

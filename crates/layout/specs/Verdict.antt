@@ -1,5 +1,5 @@
 -- What each layout refusal says, and the verdict on a file. Each refusal is a list of faults, one for each clause of the paper's table, in its
--- order; RANGE, RESERVED, UNUSED and WIDTH look at one record only, and stand in record/specs/Ranges.antt. Of record i, c counts the records before it.
+-- order; RANGE, RESERVED, UNUSED and WIDTH look at one record only, and stand in ranges/specs/Ranges.antt. Of record i, c counts the records before it.
 -- Assumes nothing.
 use mathlib.Core.Bool.{Bool, not, cond, _&&_}
 use mathlib.Core.List.{List, [], _∷_}

@@ -136,7 +136,7 @@ fn put_refusal(out: &mut [u8], refusal: Refusal, at_record: usize) -> usize
 pub fn list_file(file: &[u8], out: &mut [u8; 4096]) -> usize
     ensures { λ p. ⌜ Put (now (out .entry)) (now (out .exit)) 0 p (listing (now (file .entry))) 4096 ⌝ }
 {
-    match layout::read_layout(file) {
+    match reader::read_layout(file) {
         Verdict::Accepted {
             frames,
             messages,

@@ -16,7 +16,7 @@ use Rattle.filter.specs.Filter.{compared, bound, rules, passes}
 use Rattle.store.specs.declared.Message.{Message}
 use Rattle.store.specs.declared.MessageState.{MessageState}
 use Rattle.store.specs.Node.{isValid}
-use Rattle.store.specs.Start.{atFirst}
+use Rattle.start.specs.Start.{atFirst}
 use Rattle.message.specs.Messages.{canHold, passesNow, put, offered, agreedBy, filtered, settled}
 
 -- a float of that agreement and filter, with x1 and x2 -1000 and 1000

@@ -3,7 +3,7 @@ ghost use mathlib.Core.Path.{_≡_};
 ghost use mathlib.Core.Bool.{cond};
 ghost use Rattle.packing.specs.Values.{patternOf};
 ghost use Rattle.store.specs.Node.{withStatus, withHeld, withOld};
-ghost use Rattle.message.specs.Messages.{canHold, offered, invalidated, agreedBy, filtered, agreedOn};
+ghost use Rattle.message.specs.Messages.{canHold, offered, invalidated, agreedBy, filtered, agreedOn, settled};
 ghost use Rattle.message.specs.Fields.{stageAfter, isGone, writes};
 use agreement::Agreed;
 use store::Field;
@@ -68,7 +68,7 @@ pub fn invalidated_state(s: MessageState) -> MessageState
     t
 }
 
-pub fn with_status(s: MessageState, status: u8) -> MessageState
+fn with_status(s: MessageState, status: u8) -> MessageState
     ensures { λ r. ⌜ r ≡ withStatus status s ⌝ }
 {
     let mut t = s;
@@ -91,7 +91,7 @@ fn filtered_state(g: Message, s: MessageState, agreed: i64) -> MessageState
 }
 
 // What the counting instances agree on.
-pub fn agree_by(g: Message, instances: &[i64]) -> Agreed
+fn agree_by(g: Message, instances: &[i64]) -> Agreed
     ensures { λ r. ⌜ r ≡ agreedBy g (now (instances .entry)) ⌝ }
 {
     if g.sign == 2 { // floats
@@ -100,13 +100,23 @@ pub fn agree_by(g: Message, instances: &[i64]) -> Agreed
     agreement::agree(g.agreement, instances)
 }
 
-pub fn agreed_state(g: Message, s: MessageState, agreed: Agreed) -> MessageState
+fn agreed_state(g: Message, s: MessageState, agreed: Agreed) -> MessageState
     ensures { λ r. ⌜ r ≡ agreedOn g s agreed ⌝ }
 {
     match agreed {
         Agreed::NoResult => with_status(s, 20),
         Agreed::Value(v) => filtered_state(g, s, v),
     }
+}
+
+// The state after a round in which those instances count, and in which none of its frames came or some did.
+pub fn settled_state(g: Message, s: MessageState, none: bool, instances: &[i64]) -> MessageState
+    ensures { λ r. ⌜ r ≡ settled g s none (now (instances .entry)) ⌝ }
+{
+    if instances.len() == 0 {
+        return with_status(s, if none { 21 } else { 22 });
+    }
+    agreed_state(g, s, agree_by(g, instances))
 }
 
 // ---- a field

@@ -27,8 +27,8 @@ use Rattle.agreement.proofs.Passed.{picked-passes, voted-passes, all-left, floa
 use Rattle.record.specs.declared.Field.{Field as FieldRecord}
 use Rattle.store.specs.declared.Message.{Message}
 use Rattle.store.specs.Node.{Node, isSigned, isFloat, messageAt, laidAt}
-use Rattle.store.specs.Start.{table}
-use Rattle.store.proofs.Tables.{length-table}
+use Rattle.start.specs.Start.{table}
+use Rattle.start.proofs.Tables.{length-table}
 use Rattle.message.specs.Messages.{canHold, agreedBy}
 use Rattle.message.proofs.Held.{float-unsigned, holds-whole, holds-float}
 use Rattle.own.specs.declared.Owner.{Owner}

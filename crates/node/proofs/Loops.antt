@@ -13,7 +13,7 @@ use Rattle.own.specs.Own.{changed}
 use Rattle.own.proofs.Lists.{by-test, changed-length, changed-at}
 
 module _ {A : Type 0} (p : ℕ → Bool) (g : ℕ → A → A) where
-  rest-stays : (i k : ℕ) (l : List A) → ((j : ℕ) → p j ≡ true → j < i + k) → drop k (changed p g i l) ≡ drop k l
+  pub rest-stays : (i k : ℕ) (l : List A) → ((j : ℕ) → p j ≡ true → j < i + k) → drop k (changed p g i l) ≡ drop k l
   unfolding changed
   rest-stays i k [] before = refl
   rest-stays i zero (x ∷ l) before =

@@ -12,7 +12,7 @@ use borrow.Author.Tests.{lt-ltb}
 use Rattle.whole.specs.Whole.{allOf}
 use Rattle.layout.specs.WellLaid.{WellLaid}
 use Rattle.store.specs.Node.{Node, messageCount, isSent, isValid, hasStatusBit, heldValue, oldValue, noStage, messageAt, stateAt}
-use Rattle.store.specs.Start.{startStatusBit, initialValue, startMessage, startLayout, startState, startOf}
+use Rattle.start.specs.Start.{startStatusBit, initialValue, startMessage, startLayout, startState, startOf}
 use Rattle.message.specs.Fields.{isGone}
 use Rattle.own.specs.declared.Owner.{Owner}
 use Rattle.own.specs.Own.{cellsOf}

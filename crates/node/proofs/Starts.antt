@@ -19,7 +19,7 @@ use Rattle.layout.proofs.Accepted.{accepted}
 use Rattle.layout.proofs.Node.{few-messages}
 use Rattle.layout.proofs.Numbers.{number-to-ten}
 use Rattle.store.specs.Node.{State, Node, noDelivery, noState, noStage, stateAt}
-use Rattle.store.specs.Start.{
+use Rattle.start.specs.Start.{
   startStatusBit,
   startMessage,
   startMessageOrNone,
@@ -30,10 +30,10 @@ use Rattle.store.specs.Start.{
   startState,
   startOf,
 }
-use Rattle.store.proofs.Tables.{length-table}
+use Rattle.start.proofs.Tables.{length-table, table-at}
 use Rattle.message.proofs.Held.{word-held}
 use Rattle.own.proofs.Starts.{message-at, sound-layout}
-use Rattle.own.proofs.Tables.{table-at, alike-at}
+use Rattle.own.proofs.Tables.{alike-at}
 use Rattle.node.specs.Load.{loaded, loadOf}
 use Rattle.node.specs.Sound.{SoundMessageState, SoundState, Sound}
 use Rattle.node.proofs.Kept.{at-most-one, none-delivered}

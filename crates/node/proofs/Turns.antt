@@ -16,7 +16,7 @@ use Rattle.record.specs.declared.Field.{Field as FieldRecord}
 use Rattle.store.specs.declared.Stage.{Stage}
 use Rattle.store.specs.declared.Stage.the-variants.{Waiting, Loaded, Gone}
 use Rattle.store.specs.Node.{Layout, State, Node, StoredStage, laidAt, stageAt, noStage, withStages, withStage, nodeWith}
-use Rattle.store.specs.Start.{table}
+use Rattle.start.specs.Start.{table}
 use Rattle.message.specs.declared.Change.{Change}
 use Rattle.message.specs.Fields.{stageAfter}
 use Rattle.own.specs.declared.Owner.{Owner}

@@ -7,7 +7,7 @@ use Rattle.layout.specs.Verdict.{verdict}
 use Rattle.layout.specs.declared.Refusal.{Refusal}
 use Rattle.layout.specs.declared.Verdict.{Verdict}
 use Rattle.store.specs.Node.{Node}
-use Rattle.store.specs.Start.{startOf}
+use Rattle.start.specs.Start.{startOf}
 use Rattle.node.specs.Calls.{Outcome}
 
 -- a refusal's number, 256 times its record and 65,536 times its byte

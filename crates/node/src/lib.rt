@@ -3,7 +3,7 @@ ghost use mathlib.Core.Path.{_≡_};
 ghost use Prim.Native.Nat.{_<_, _≤_, min};
 ghost use lib.ListN.{length, take};
 ghost use Rattle.whole.specs.Whole.{allOf};
-ghost use Rattle.store.specs.Node.{nodeSize, layoutOf, stateOf, nodeOf, messageAt, stateAt, nodeWith};
+ghost use Rattle.store.specs.Node.{nodeSize, layoutOf, stateOf, nodeOf, messageAt, stateAt, withState, nodeWith};
 ghost use Rattle.own.specs.Own.{placesOf, cellsOf, fieldsOf};
 ghost use Rattle.node.specs.Calls.{
   left,
@@ -29,7 +29,7 @@ ghost use Rattle.node.specs.Calls.{
   receiveAnswer,
   receivedPlace,
 };
-ghost use Rattle.node.specs.Closing.{came, statusSet, counts, valueIn, instances, noneCame, closedState, closeMessages, forget, closeOf};
+ghost use Rattle.node.specs.Closing.{came, statusSet, valueIn, instances, noneCame, closedState, closeMessages, closeOf};
 ghost use Rattle.node.specs.Load.{loadOf};
 use layout::Verdict;
 use message::Change;
@@ -422,16 +422,6 @@ fn is_status_set(node: &[u8], x: Field) -> bool
     packing::unpack(store::data_at(node, f), h.order == 1, x.place, 1) == 1
 }
 
-fn does_count(node: &[u8], x: Field) -> bool
-    requires { ⌜ length (now node) ≡ nodeSize ⌝ }
-    ensures { λ r. ⌜ r ≡ counts (nodeOf (now (node .entry))) x ⌝ }
-{
-    if !did_come(node, x) {
-        return false;
-    }
-    is_status_set(node, x)
-}
-
 fn value_in(node: &[u8], g: Message, x: Field) -> i64
     requires { ⌜ (x .frame < 32) × (length (now node) ≡ nodeSize) ⌝ }
     ensures { λ r. ⌜ r ≡ valueIn (nodeOf (now (node .entry))) g x ⌝ }
@@ -443,63 +433,52 @@ fn value_in(node: &[u8], g: Message, x: Field) -> i64
     packing::value_of(pattern, g.width, g.sign == 1)
 }
 
+// What was gathered of a message: how many instances count, and whether none of its frames came.
+struct Gathered {
+    number: usize,
+    none: bool,
+}
+
 // The values of a message's counting instances go to the front of the array, in frame order; a message has at most eight fields.
-fn gather(node: &[u8], message: u8, values: &mut [i64; 8]) -> usize
+fn gather(node: &[u8], message: u8, values: &mut [i64; 8]) -> Gathered
     requires { ⌜ (message < 32) × (length (now values) ≡ 8) × (length (now node) ≡ nodeSize) ⌝ }
-    ensures { λ r. ⌜ (r ≤ 8) × (length (now (values .exit)) ≡ 8) × (take r (now (values .exit)) ≡ instances (nodeOf (now (node .entry))) message) ⌝ }
+    ensures { λ r. ⌜ (r .number ≤ 8) × (length (now (values .exit)) ≡ 8) × (take (r .number) (now (values .exit)) ≡ instances (nodeOf (now (node .entry))) message) × (r .none ≡ noneCame (nodeOf (now (node .entry))) message) ⌝ }
 {
     let owner = Owner::Message(message);
     let g = store::message_at(node, message as usize);
     let own = own::places_of(node, owner);
     let from = own.from;
     let end = own.end;
-    let mut n = 0;
+    let mut number = 0;
+    let mut none = true;
     for i in from..end {
         let d = own::cell_at(node, owner, i);
         if own::owns(node, owner, d) {
             let x = store::laid_at(node, d);
-            if does_count(node, x) {
-                values[n] = value_in(node, g, x);
-                n += 1;
+            if did_come(node, x) {
+                none = false;
+                if is_status_set(node, x) {
+                    values[number] = value_in(node, g, x);
+                    number += 1;
+                }
             }
         }
     }
-    n
+    Gathered { number, none }
 }
 
-fn did_none_come(node: &[u8], message: u8) -> bool
-    requires { ⌜ (message < 32) × (length (now node) ≡ nodeSize) ⌝ }
-    ensures { λ r. ⌜ r ≡ noneCame (nodeOf (now (node .entry))) message ⌝ }
-{
-    let owner = Owner::Message(message);
-    let own = own::places_of(node, owner);
-    let from = own.from;
-    let end = own.end;
-    for i in from..end {
-        let d = own::cell_at(node, owner, i);
-        if own::owns(node, owner, d) {
-            if did_come(node, store::laid_at(node, d)) {
-                return false;
-            }
-        }
-    }
-    true
-}
-
-// The state of a message, which was s, after the round.
-fn closed_state(node: &[u8], message: u8, g: Message, s: MessageState) -> MessageState
-    requires { ⌜ (message < 32) × (g ≡ messageAt (layoutOf (now node)) message) × (length (now node) ≡ nodeSize) ⌝ }
-    ensures { λ r. ⌜ r ≡ closedState (nodeOf (now (node .entry))) message s ⌝ }
+// One message after the round. What the layout says of it and its state are read when the fields are through, so that they need not be kept meanwhile.
+fn close_message(node: &mut [u8], m: usize)
+    requires { ⌜ (m < 32) × (length (now node) ≡ nodeSize) ⌝ }
+    ensures { λ _. ⌜ nodeOf (now (node .exit)) ≡ nodeWith (nodeOf (now (node .entry))) (withState (stateOf (now (node .entry))) m (closedState (nodeOf (now (node .entry))) m (stateAt (stateOf (now (node .entry))) m))) ⌝ }
 {
     let mut values = [0i64; 8];
-    let n = gather(node, message, &mut values);
-    if n == 0 {
-        if did_none_come(node, message) {
-            return message::with_status(s, 21);
-        }
-        return message::with_status(s, 22);
-    }
-    message::agreed_state(g, s, message::agree_by(g, &values[..n]))
+    let gathered = gather(&node[..], m as u8, &mut values);
+    let n = gathered.number;
+    let g = store::message_at(&node[..], m);
+    let s = store::state_at(&node[..], m);
+    let t = message::settled_state(g, s, gathered.none, &values[..n]);
+    store::put_state(node, m, t);
 }
 
 fn close_messages(node: &mut [u8])
@@ -510,20 +489,8 @@ fn close_messages(node: &mut [u8])
     for m in 0..messages {
         let g = store::message_at(&node[..], m);
         if !(g.direction == 1) {
-            let s = store::state_at(&node[..], m);
-            let t = closed_state(&node[..], m as u8, g, s);
-            store::put_state(&mut *node, m, t);
+            close_message(&mut *node, m);
         }
-    }
-}
-
-fn forget_deliveries(node: &mut [u8])
-    requires { ⌜ length (now node) ≡ nodeSize ⌝ }
-    ensures { λ _. ⌜ nodeOf (now (node .exit)) ≡ nodeWith (nodeOf (now (node .entry))) (forget (layoutOf (now (node .entry))) (stateOf (now (node .entry)))) ⌝ }
-{
-    let frames = store::counts(&node[..]).frames;
-    for f in 0..frames {
-        store::forget_delivery(&mut *node, f);
     }
 }
 
@@ -532,7 +499,8 @@ pub fn close(node: &mut [u8]) -> u8
     ensures { λ r. ⌜ left r (now (node .exit)) ≡ outcome 0 (closeOf (nodeOf (now (node .entry)))) (nodeOf (now (node .entry))) ⌝ }
 {
     close_messages(&mut *node);
-    forget_deliveries(node);
+    let frames = store::counts(&node[..]).frames;
+    store::forget_deliveries(node, frames);
     0
 }
 
@@ -543,13 +511,13 @@ pub fn load(node: &mut [u8], file: &[u8]) -> u32
     requires { ⌜ length (now node) ≡ nodeSize ⌝ }
     ensures { λ r. ⌜ left r (now (node .exit)) ≡ loadOf (nodeOf (now (node .entry))) (now (file .entry)) ⌝ }
 {
-    match layout::read_layout(file) {
+    match reader::read_layout(file) {
         Verdict::Accepted {
             frames,
             messages,
             fields,
         } => {
-            store::start(node, file, frames, messages, fields);
+            start::start(node, file, frames, messages, fields);
             0
         }
         Verdict::Refused { refusal, record } => {

@@ -9,7 +9,7 @@ use Rattle.packing.specs.Places.{bitOf, withBit, putBit, placeOf, frameBit, bit
 use Rattle.packing.specs.Values.{isWidth, least, greatest, inRange, patternOf}
 use Rattle.filter.specs.Filter.{rules, passes}
 use Rattle.store.specs.Node.{Layout}
-use Rattle.store.specs.Start.{table}
+use Rattle.start.specs.Start.{table}
 use Rattle.message.specs.Messages.{canHold, passesNow, put, offered}
 use Rattle.message.specs.Fields.{statusPlaces, writes}
 use Rattle.own.specs.Own.{chosen, owns, cellsOf}

@@ -35,7 +35,7 @@ use Rattle.layout.specs.Verdict.{
 use Rattle.layout.specs.declared.Verdict.{Verdict}
 use Rattle.layout.proofs.Examples.{filled}
 use Rattle.store.specs.Node.{Node}
-use Rattle.store.specs.Start.{
+use Rattle.start.specs.Start.{
   table,
   selected,
   laidFrame,

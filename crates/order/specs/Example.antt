@@ -9,7 +9,7 @@ use Rattle.store.specs.declared.Frame.{Frame}
 use Rattle.store.specs.declared.Message.{Message}
 use Rattle.store.specs.declared.MessageState.{MessageState}
 use Rattle.store.specs.Node.{Node}
-use Rattle.store.specs.Start.{atFirst}
+use Rattle.start.specs.Start.{atFirst}
 use Rattle.order.specs.Runs.{send, assemble}
 use Rattle.order.specs.Order.{Numbered}
 

@@ -2,12 +2,12 @@
 -- Assumes nothing.
 use mathlib.Core.Path.{_≡_}
 use mathlib.Core.Bool.{Bool}
-use mathlib.Core.List.{List}
+use mathlib.Core.List.{List, _++_}
 use Prim.Native.Nat.{ℕ, _≤_, min}
 use lib.Dec.{T, ltb}
 use lib.Ieee.{binary32, fits}
 use lib.IntN.{ℤ}
-use lib.ListN.{length, take}
+use lib.ListN.{length, take, drop, replicate}
 use Rattle.whole.specs.Whole.{word}
 use Rattle.packing.specs.Places.{placesIn, packed, unpacked}
 use Rattle.packing.specs.Values.{inRange, valueOf, patternOf, extended}
@@ -19,17 +19,20 @@ use Rattle.agreement.specs.Agreement.{agreed}
 use Rattle.agreement.specs.Floats.{floatsAgreed}
 use Rattle.agreement.specs.declared.Agreed.{Agreed}
 use Rattle.filter.specs.Filter.{passes}
-use Rattle.record.specs.Records.{byteAt, frameAt as frameRecord, messageAt as messageRecord, fieldAt as fieldRecord, recordAt, pairBelow}
+use Rattle.record.specs.Records.{byteAt, bytesOf as recordBytes, frameAt as frameRecord, messageAt as messageRecord, fieldAt as fieldRecord, recordAt, pairBelow}
 use Rattle.ranges.specs.Ranges.{rangeFault}
-use Rattle.record.specs.Runs.{messageRun, statusRun, pastEnd, meet, clash}
+use Rattle.record.specs.Runs.{statusRun, pastEnd, meet}
 use Rattle.record.specs.declared.Frame.{Frame as FrameRecord}
 use Rattle.record.specs.declared.Message.{Message as MessageRecord}
 use Rattle.record.specs.declared.Field.{Field as FieldRecord}
 use Rattle.record.specs.declared.Record.{Record}
 use Rattle.ranges.specs.declared.RangeFault.{RangeFault}
 use Rattle.record.specs.declared.Run.{Run}
+use Rattle.used.specs.Used.{anyUsed, withRun}
+use Rattle.layout.specs.Counts.{countedBy}
 use Rattle.layout.specs.Numbers.{numberOf, byteOf}
 use Rattle.layout.specs.Verdict.{verdict}
+use Rattle.layout.specs.declared.Read.{Read}
 use Rattle.layout.specs.declared.Refusal.{Refusal}
 use Rattle.layout.specs.declared.Verdict.{Verdict}
 use Rattle.layout.specs.declared.Counts.{Counts}
@@ -61,15 +64,16 @@ use Rattle.store.specs.Node.{
   noState,
   marked,
   filled,
-  withStatus,
+  withDeliveries,
   withDelivery,
   withState,
   withStage,
   nodeWith,
 }
-use Rattle.store.specs.Start.{startOf}
+use Rattle.store.specs.Writing.{emptyNode, withNumbers, withFrame, withMessage, withLaid, withListed}
+use Rattle.start.specs.Start.{startOf}
 use Rattle.message.specs.declared.Change.{Change}
-use Rattle.message.specs.Messages.{canHold, offered, invalidated, agreedBy, agreedOn}
+use Rattle.message.specs.Messages.{canHold, offered, invalidated, settled}
 use Rattle.message.specs.Fields.{stageAfter, isGone, writes}
 use Rattle.own.specs.declared.Owner.{Owner}
 use Rattle.own.specs.declared.Places.{Places}
@@ -116,6 +120,7 @@ pub record Once : Type 0 where
   pub pass : (filter sign x1 x2 : ℕ) (new old : ℤ) → Single (λ (r : Bool). r ≡ passes filter sign x1 x2 new old)
   -- record
   pub byte-at : (file : List ℕ) (i k : ℕ) → Single (λ (r : ℕ). r ≡ byteAt file i k)
+  pub record-bytes : (file : List ℕ) (i : ℕ) → Single (λ (r : List ℕ). r ≡ recordBytes file i)
   pub frame-record : (file : List ℕ) (i : ℕ) → Single (λ (r : FrameRecord). r ≡ frameRecord file i)
   pub message-record : (file : List ℕ) (i : ℕ) → Single (λ (r : MessageRecord). r ≡ messageRecord file i)
   pub field-record : (file : List ℕ) (i : ℕ) → Single (λ (r : FieldRecord). r ≡ fieldRecord file i)
@@ -124,10 +129,12 @@ pub record Once : Type 0 where
   pub range-fault : (file : List ℕ) (i : ℕ) → Single (λ (f : RangeFault). f ≡ rangeFault file i)
   pub past-end : (n : ℕ) (a : Run) → Single (λ (b : Bool). b ≡ pastEnd n a)
   pub runs-meet : (a b : Run) → Single (λ (t : Bool). t ≡ meet a b)
-  pub message-run : (g : MessageRecord) (r : FieldRecord) → Single (λ (a : Run). a ≡ messageRun g r)
   pub status-run : (r : FieldRecord) → Single (λ (a : Run). a ≡ statusRun r)
-  pub fields-clash : (g : MessageRecord) (r : FieldRecord) (e : MessageRecord) (q : FieldRecord) → Single (λ (b : Bool). b ≡ clash g r e q)
-  -- layout
+  -- used
+  pub is-used : (t : List ℕ) (f : ℕ) (a : Run) → Single (λ (b : Bool). b ≡ anyUsed t f a)
+  pub add-used : (t : List ℕ) (f : ℕ) (a : Run) → Single (λ (e : List ℕ). e ≡ withRun t f a)
+  -- layout, reader
+  pub counts-with : (c : Counts) (read : Read) → Single (λ (r : Counts). r ≡ countedBy c read)
   pub number-of : (n : Refusal) → Single (λ (r : ℕ). r ≡ numberOf n)
   pub byte-of : (n : Refusal) → Single (λ (r : ℕ). r ≡ byteOf n)
   pub read-layout : (file : List ℕ) → Single (λ (v : Verdict). v ≡ verdict file)
@@ -151,20 +158,31 @@ pub record Once : Type 0 where
       → Single (λ (e : List ℕ). Memory e × (nodeOf e ≡ nodeWith (nodeOf b) (withDelivery (stateOf b) f (marked k (deliveryAt (stateOf b) f)))))
   pub put-data : (b : List ℕ) (f : ℕ) (bytes : List ℕ)
       → Single (λ (e : List ℕ). Memory e × (nodeOf e ≡ nodeWith (nodeOf b) (withDelivery (stateOf b) f (filled (deliveryAt (stateOf b) f) bytes))))
-  pub forget-delivery : (b : List ℕ) (f : ℕ)
-      → Single (λ (e : List ℕ). Memory e × (nodeOf e ≡ nodeWith (nodeOf b) (withDelivery (stateOf b) f noDelivery)))
+  pub forget-deliveries : (b : List ℕ) (n : ℕ)
+      → Single (λ (e : List ℕ).
+      Memory e × (nodeOf e ≡ nodeWith (nodeOf b) (withDeliveries (stateOf b) (replicate n noDelivery ++ drop n (stateOf b .deliveries)))))
   pub put-state : (b : List ℕ) (m : ℕ) (s : MessageState)
       → Single (λ (e : List ℕ). Memory e × (nodeOf e ≡ nodeWith (nodeOf b) (withState (stateOf b) m s)))
   pub put-stage : (b : List ℕ) (d : ℕ) (t : Stage) → Single (λ (e : List ℕ). Memory e × (nodeOf e ≡ nodeWith (nodeOf b) (withStage (stateOf b) d t)))
+  pub clear : Single (λ (e : List ℕ). Memory e × (nodeOf e ≡ emptyNode))
+  pub put-counts : (b : List ℕ) (frames messages fields : ℕ)
+      → Single (λ (e : List ℕ). Memory e × (nodeOf e ≡ record { layout = withNumbers (layoutOf b) frames messages fields; state = stateOf b }))
+  pub put-frame : (b : List ℕ) (f : ℕ) (h : Frame)
+      → Single (λ (e : List ℕ). Memory e × (nodeOf e ≡ record { layout = withFrame (layoutOf b) f h; state = stateOf b }))
+  pub put-message : (b : List ℕ) (m : ℕ) (g : Message)
+      → Single (λ (e : List ℕ). Memory e × (nodeOf e ≡ record { layout = withMessage (layoutOf b) m g; state = stateOf b }))
+  pub put-laid : (b : List ℕ) (d : ℕ) (x : FieldRecord)
+      → Single (λ (e : List ℕ). Memory e × (nodeOf e ≡ record { layout = withLaid (layoutOf b) d x; state = stateOf b }))
+  pub put-listed : (b : List ℕ) (i d : ℕ) → Single (λ (e : List ℕ). Memory e × (nodeOf e ≡ record { layout = withListed (layoutOf b) i d; state = stateOf b }))
+  -- start
   pub start : (file : List ℕ) (frames messages fields : ℕ)
       → Single (λ (e : List ℕ). Memory e × (nodeOf e ≡ startOf file frames messages fields))
   -- message
   pub can-hold : (g : Message) (value : ℤ) → Single (λ (r : Bool). r ≡ canHold g value)
   pub offered-state : (g : Message) (s : MessageState) (value : ℤ) → Single (λ (r : MessageState). r ≡ offered g s value)
   pub invalidated-state : (s : MessageState) → Single (λ (r : MessageState). r ≡ invalidated s)
-  pub with-status : (s : MessageState) (status : ℕ) → Single (λ (r : MessageState). r ≡ withStatus status s)
-  pub agree-by : (g : Message) (instances : List ℤ) → Single (λ (r : Agreed). r ≡ agreedBy g instances)
-  pub agreed-state : (g : Message) (s : MessageState) (value : Agreed) → Single (λ (r : MessageState). r ≡ agreedOn g s value)
+  pub settled-state : (g : Message) (s : MessageState) (none : Bool) (instances : List ℤ)
+      → Single (λ (r : MessageState). r ≡ settled g s none instances)
   pub stage-after : (change : Change) (x : Field) → Single (λ (r : Stage). r ≡ stageAfter change (x .stage))
   pub is-gone : (x : Field) → Single (λ (r : Bool). r ≡ isGone (x .stage))
   pub write-field : (buffer : List ℕ) (h : Frame) (g : Message) (s : MessageState) (x : FieldRecord)

@@ -13,7 +13,7 @@ use native.Mathlib.Omega.{arith}
 use lib.Dec.{eqb}
 use lib.ListN.{length, getD}
 use borrow.Author.Tests.{eqb-true, eq-eqb}
-use Rattle.store.specs.Start.{table}
+use Rattle.start.specs.Start.{table}
 use Rattle.own.specs.Own.{chosen, changed, isIn, Rising}
 
 -- a choice by a test has a property that both its sides have

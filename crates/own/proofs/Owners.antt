@@ -12,7 +12,7 @@ use borrow.Author.Tests.{ltb-true, lt-ltb, eqb-true}
 use Rattle.store.specs.declared.Frame.{Frame}
 use Rattle.store.specs.declared.Message.{Message}
 use Rattle.store.specs.Node.{Layout, frameAt, messageAt, laidAt, listedAt}
-use Rattle.store.specs.Start.{table}
+use Rattle.start.specs.Start.{table}
 use Rattle.own.specs.declared.Owner.{Owner}
 use Rattle.own.specs.Own.{isIn, Rising, firstPlace, endPlace, cellAt, names, owns, cellsOf}
 use Rattle.own.specs.SoundLayout.{SoundLayout}

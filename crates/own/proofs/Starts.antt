@@ -25,7 +25,7 @@ use Rattle.layout.proofs.Node as laid
 use Rattle.store.specs.declared.Frame.{Frame}
 use Rattle.store.specs.declared.Message.{Message}
 use Rattle.store.specs.Node.{Layout, noFrame, noMessage, notLaid, frameAt, messageAt, laidAt, listedAt}
-use Rattle.store.specs.Start.{
+use Rattle.start.specs.Start.{
   liesIn,
   liesBefore,
   laidFrame,
@@ -40,8 +40,8 @@ use Rattle.store.specs.Start.{
   startFields,
   startLayout,
 }
-use Rattle.store.proofs.Tables.{length-table}
-use Rattle.store.proofs.Index.{run-ends, start-index-length, has-place, run-lies, run-rises}
+use Rattle.start.proofs.Tables.{length-table, table-at}
+use Rattle.start.proofs.Index.{run-ends, start-index-length, has-place, run-lies, run-rises}
 use Rattle.message.specs.Fields.{statusPlaces}
 use Rattle.own.specs.SoundLayout.{
   SoundFrame,
@@ -54,7 +54,7 @@ use Rattle.own.specs.SoundLayout.{
   SoundLayout,
 }
 use Rattle.own.proofs.Stretches.{tally-from, tally-keys, Stretch, stretch}
-use Rattle.own.proofs.Tables.{table-at, table-past}
+use Rattle.own.proofs.Tables.{table-past}
 
 -- of two fields of one frame the later is of a later message
 later-message : (p r : FieldRecord) → p .frame ≡ r .frame → Below p r → p .message < r .message

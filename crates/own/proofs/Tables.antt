@@ -1,34 +1,24 @@
--- Each cell of a table holds what the function says of its number, and where that is none there is none; a list of one element throughout has it at every place; a test that everything
--- passes is passed by all cells of a list; and a test of all images is one of all elements. By induction on the cells.
+-- Where the function of a table says none, the table has none; a list of one element throughout has it at every place; a test that everything passes
+-- is passed by all cells of a list; and a test of all images is one of all elements. By induction on the cells.
 -- Assumes nothing.
-use mathlib.Core.Path.{_≡_, refl, ap, _∙_}
+use mathlib.Core.Path.{_≡_, refl, _∙_}
 use mathlib.Core.Bool.{Bool, true}
 use mathlib.Core.List.{List, [], _∷_, map}
-use Prim.Native.Nat.{ℕ, zero, suc, _+_, _<_}
-use native.Mathlib.Nat.{zero-add}
+use Prim.Native.Nat.{ℕ, zero, suc, _<_}
 use native.Mathlib.Decide.{decLt}
 use native.Mathlib.Omega.{arith}
 use lib.ListN.{getD, replicate, List·getD-eq-default}
 use Rattle.whole.specs.Whole.{allOf}
-use Rattle.store.specs.Start.{table}
-use Rattle.store.proofs.Tables.{length-table}
+use Rattle.start.specs.Start.{table}
+use Rattle.start.proofs.Tables.{length-table, table-at}
 
 module _ {A : Type 0} (f : ℕ → A) where
-  cell-from : (none : A) (i k j : ℕ) → j < k → getD (table f i k) j none ≡ f (i + j)
-  unfolding table
-  cell-from none i zero j l = absurd (omega arith)
-  cell-from none i (suc k) zero l = ap f (omega arith)
-  cell-from none i (suc k) (suc j) l = cell-from none (suc i) k j (omega arith) ∙ ap f (omega arith)
-
-  pub table-at : (none : A) (k j : ℕ) → j < k → getD (table f 0 k) j none ≡ f j
-  table-at none k j l = rw (zero-add j) at (cell-from none 0 k j l)
-
   -- where the function says none, the table has none, past its end too
   pub table-past : (none : A) (k j : ℕ) → f j ≡ none → getD (table f 0 k) j none ≡ none
   table-past none k j e = go (decLt j k)
     where
       go : Dec (j < k) → getD (table f 0 k) j none ≡ none
-      go (yes h) = table-at none k j h ∙ e
+      go (yes h) = table-at f none k j h ∙ e
       go (no h) = List·getD-eq-default (table f 0 k) none (rw (length-table f 0 k) (omega arith))
 
 -- past the end too, where it stands for what is missing

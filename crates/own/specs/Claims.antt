@@ -7,7 +7,7 @@ use mathlib.Core.Logic.{_↔_}
 use Prim.Native.Nat.{ℕ, _<_}
 use Rattle.layout.specs.WellLaid.{WellLaid}
 use Rattle.store.specs.Node.{Layout, laidAt}
-use Rattle.store.specs.Start.{startLayout}
+use Rattle.start.specs.Start.{startLayout}
 use Rattle.own.specs.declared.Owner.{Owner}
 use Rattle.own.specs.Own.{isIn, Rising, names, cellsOf}
 use Rattle.own.specs.SoundLayout.{SoundLayout}

@@ -7,7 +7,7 @@ use Prim.Native.Nat.{ℕ, suc, _+_, _-_, _<_, min}
 use lib.Dec.{eqb, ltb}
 use Rattle.record.specs.declared.Field.{Field as FieldRecord}
 use Rattle.store.specs.Node.{Layout, frameAt, messageAt, laidAt, listedAt}
-use Rattle.store.specs.Start.{table}
+use Rattle.start.specs.Start.{table}
 use Rattle.own.specs.declared.Owner.{Owner}
 use Rattle.own.specs.declared.Places.{Places}
 

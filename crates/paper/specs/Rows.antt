@@ -14,7 +14,7 @@ use Rattle.agreement.specs.declared.Agreed.the-variants.{Value}
 use Rattle.store.specs.declared.Message.{Message}
 use Rattle.store.specs.declared.MessageState.{MessageState}
 use Rattle.store.specs.Node.{isValid}
-use Rattle.store.specs.Start.{atFirst}
+use Rattle.start.specs.Start.{atFirst}
 use Rattle.message.specs.Messages.{offered}
 
 -- ---- the rows' words

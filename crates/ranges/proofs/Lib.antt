@@ -1,3 +1,4 @@
-pub mod Arms
 pub mod Lowest
+pub mod Own
+pub mod Walk
 pub mod Ways

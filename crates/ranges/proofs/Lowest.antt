@@ -2,7 +2,7 @@
 -- read off the list of what is found at the record's bytes.
 -- Assumes nothing.
 use mathlib.Core.Path.{_≡_, refl, sym, ap, _∙_}
-use mathlib.Core.Bool.{Bool, true, false, not, cond, true≢false, false≢true}
+use mathlib.Core.Bool.{Bool, true, false, cond, true≢false, false≢true}
 use mathlib.Core.List.{List, [], _∷_}
 use mathlib.Core.Logic.{_↔_, Iff·trans}
 use Prim.Native.Nat.{ℕ, zero, suc, _+_, _<_, _≤_}
@@ -11,7 +11,7 @@ use native.Mathlib.Omega.{arith}
 use lib.Dec.{eqb}
 use lib.ListN.{length, getD, List·getD-eq-default}
 use Rattle.record.specs.Numbers.{anyBelow, leastBelow}
-use Rattle.record.specs.Records.{byteAt, frameAt, messageAt, fieldAt}
+use Rattle.record.specs.Records.{byteAt}
 use Rattle.ranges.specs.Ranges.{
   wrongIf,
   frameFinding,
@@ -27,9 +27,6 @@ use Rattle.ranges.specs.Ranges.{
   LowestWrong,
   AllRight,
 }
-use Rattle.record.specs.declared.Frame.{Frame}
-use Rattle.record.specs.declared.Message.{Message}
-use Rattle.record.specs.declared.Field.{Field}
 use Rattle.ranges.specs.declared.Fault.{Fault}
 use Rattle.ranges.specs.declared.Finding.{Finding}
 use Rattle.ranges.specs.declared.RangeFault.{RangeFault}
@@ -42,6 +39,14 @@ pub wrong-if-right : (wrong : Bool) (fault : Fault) → (wrongIf wrong fault ≡
 unfolding wrongIf
 wrong-if-right true fault = (λ e. absurd (true≢false (ap isWrong e)), λ e. absurd (true≢false e))
 wrong-if-right false fault = (λ e. refl, λ e. refl)
+
+-- what a test that is clear finds, and one that holds
+pub if-clear : (wrong : Bool) (fault : Fault) → wrong ≡ false → wrongIf wrong fault ≡ Finding.Right
+if-clear wrong fault = wrong-if-right wrong fault .1
+
+pub if-holds : (wrong : Bool) (fault : Fault) → wrong ≡ true → wrongIf wrong fault ≡ Finding.Wrong fault
+unfolding wrongIf
+if-holds wrong fault e = rw e refl
 
 wrong-clear : (f : Finding) → (isWrong f ≡ false) ↔ (f ≡ Finding.Right)
 wrong-clear Finding.Right = (λ e. refl, λ e. refl)
@@ -106,7 +111,7 @@ module _ (p : ℕ → Finding) where
 
   -- ---- the answer
 
-  none-below : (n : ℕ) → (NoneBelow n) ↔ ((k : ℕ) → k < n → p k ≡ Finding.Right)
+  pub none-below : (n : ℕ) → (NoneBelow n) ↔ ((k : ℕ) → k < n → p k ≡ Finding.Right)
   unfolding wrongAt
   none-below n = (
     λ none k l. wrong-clear (p k) .0 (any-clear (wrongAt p) n .0 none k l),
@@ -140,7 +145,7 @@ module _ (p : ℕ → Finding) where
       right (Answer.none all e) clear = all
       right (Answer.some fault k w e) clear = absurd (true≢false (sym (ap isFault e) ∙ ap isFault clear))
 
-  lowest-at : (fault : Fault) (k : ℕ) → (lowestFault p ≡ RangeFault.At fault k) ↔ LowestWrong p fault k
+  pub lowest-at : (fault : Fault) (k : ℕ) → (lowestFault p ≡ RangeFault.At fault k) ↔ LowestWrong p fault k
   lowest-at fault k = (lowest answer, λ w. sym (wrong-lowest k (none-below k .1 (w .lowest)) (w .wrong) (w .byte) refl))
     where
       lowest : Answer → lowestFault p ≡ RangeFault.At fault k → LowestWrong p fault k
@@ -157,14 +162,6 @@ fault-clear (RangeFault.At fault k) = (λ e. absurd (true≢false e), λ e. absu
 -- ---- a record
 
 module _ (s : List ℕ) (i : ℕ) where
-  -- byte k, with what was read of record i and of one of its bytes
-  pub found-at :
-      {kind j n m x k : ℕ} {h : Frame} {g : Message} {r : Field} {f : Finding}
-      → f ≡ findingOf kind h g r j (not (eqb x 0)) → kind ≡ byteAt s i 0 → h ≡ frameAt s i → g ≡ messageAt s i → r ≡ fieldAt s i → x ≡ byteAt s n m
-      → n ≡ i → m ≡ k → j ≡ k → f ≡ findingAt s i k
-  unfolding findingAt
-  found-at found kind h g r read same there here = found ∙ rw (kind, h, g, r, read, same, there, here) refl
-
   -- what the answer says, as a test and as a value
   pub range-none : (rangeFault s i ≡ RangeFault.None) ↔ AllRight (findingAt s i)
   unfolding rangeFault

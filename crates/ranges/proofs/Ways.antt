@@ -29,7 +29,7 @@ use Rattle.ranges.specs.Ranges.{
 }
 use Rattle.ranges.specs.Claims.{named, WordAt, UnusedWord, UnfitWord, Claims}
 use Rattle.record.proofs.Tests.{meanings}
-use Rattle.ranges.proofs.Lowest.{wrong-if-right, listed}
+use Rattle.ranges.proofs.Lowest.{if-clear, if-holds, listed}
 use Rattle.record.specs.declared.Frame.{Frame}
 use Rattle.record.specs.declared.Message.{Message}
 use Rattle.record.specs.declared.Field.{Field}
@@ -113,9 +113,8 @@ tag (Finding.Wrong Fault.Width) = 4
 
 -- what a test finds is right, or its own fault where it holds
 found-wrong : (t : Bool) (fault : Fault) → ((wrongIf t fault ≡ Finding.Right) × (t ≡ false)) ⊎ ((wrongIf t fault ≡ Finding.Wrong fault) × (t ≡ true))
-unfolding wrongIf
-found-wrong true fault = inr (refl, refl)
-found-wrong false fault = inl (refl, refl)
+found-wrong true fault = inr (if-holds true fault refl, refl)
+found-wrong false fault = inl (if-clear false fault refl, refl)
 
 -- a word is right, not used and not zero, or else does not fit
 data Told (g : Message) (used : Bool) (x : ℕ) : Type 0 where
@@ -129,9 +128,8 @@ told g used x = go _ _ refl refl
   where
     go : (u e : Bool) → (not used && not (eqb x 0)) ≡ u → wordFits g x ≡ e → Told g used x
     go true e first fits = let both = simp meanings at first in Told.unused (rw first refl) (both .0) (both .1)
-    go false true first fits = Told.right (rw (first, fits) (wrong-if-right false Fault.Width .1 refl)) fits (simp meanings at first)
-    go false false first fits =
-        Told.width (rw (first, fits) (⊎-elim (λ h. absurd (true≢false (h .1))) (λ h. h .0) (found-wrong true Fault.Width))) fits (simp meanings at first)
+    go false true first fits = Told.right (rw (first, fits) (if-clear false Fault.Width refl)) fits (simp meanings at first)
+    go false false first fits = Told.width (rw (first, fits) (if-holds true Fault.Width refl)) fits (simp meanings at first)
 
 -- ---- byte k of record i
 

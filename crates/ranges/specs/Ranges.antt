@@ -3,8 +3,8 @@
 use mathlib.Core.Path.{_≡_}
 use mathlib.Core.Bool.{Bool, true, false, not, cond, _&&_, _||_}
 use mathlib.Core.List.{List, [], _∷_}
-use Prim.Native.Nat.{ℕ, _<_}
-use lib.Dec.{eqb, ltb}
+use Prim.Native.Nat.{ℕ, suc, _<_}
+use lib.Dec.{eqb, ltb, leb}
 use lib.ListN.{getD}
 use Rattle.packing.specs.Values.{extended}
 use Rattle.float.specs.Patterns.{aside}
@@ -105,6 +105,10 @@ nonzeroAt s i k = not (eqb (byteAt s i k) 0)
 unfoldable pub findingAt : List ℕ → ℕ → ℕ → Finding
 findingAt s i k = findingOf (byteAt s i 0) (frameAt s i) (messageAt s i) (fieldAt s i) k (nonzeroAt s i k)
 
+-- what is found at byte k where the bytes from a on are not named, and nothing is said of those before
+unfoldable pub reservedFrom : List ℕ → ℕ → ℕ → ℕ → Finding
+reservedFrom s i a k = wrongIf (leb a k && nonzeroAt s i k) Fault.Reserved
+
 -- ---- the lowest wrong byte, where p says what is found at each
 
 -- a byte is wrong
@@ -119,6 +123,16 @@ wrongAt p k = isWrong (p k)
 abbrev pub faultAt : ℕ → Finding → RangeFault
 faultAt k Finding.Right = RangeFault.None
 faultAt k (Finding.Wrong fault) = RangeFault.At fault k
+
+-- the first of two faults, where the earlier is one
+abbrev pub orElse : RangeFault → RangeFault → RangeFault
+orElse RangeFault.None later = later
+orElse (RangeFault.At fault k) later = RangeFault.At fault k
+
+-- the first that is wrong of what is found at bytes k, k + 1, ..
+unfoldable pub firstWrong : ℕ → List Finding → RangeFault
+firstWrong k [] = RangeFault.None
+firstWrong k (f ∷ l) = orElse (faultAt k f) (firstWrong (suc k) l)
 
 -- the lowest of the 24 bytes that is wrong, and how it is
 unfoldable pub lowestFault : (ℕ → Finding) → RangeFault

@@ -1,7 +1,7 @@
 -- Searching the numbers below n, for any test: the least that passes, what a turn of a loop adds, and what is known where the loop ends.
 -- Assumes nothing.
-use mathlib.Core.Path.{_≡_, refl, sym, _∙_}
-use mathlib.Core.Bool.{Bool, true, false, cond, _||_, true≢false, false≢true}
+use mathlib.Core.Path.{_≡_, refl, sym, ap₂, _∙_}
+use mathlib.Core.Bool.{Bool, true, false, cond, _&&_, _||_, true≢false, false≢true}
 use mathlib.Core.Logic.{_↔_}
 use Prim.Native.Nat.{ℕ, zero, suc, _+_, _<_}
 use native.Mathlib.Decide.{decLt}
@@ -51,6 +51,46 @@ least p n k = (
   λ (any, e). rw e (least-below p n any),
   λ w. let any = any-least p n k w in (any, same-least p n k (leastBelow p n) w (least-below p n any)),
 )
+
+-- ---- searches with one test or another
+
+pub any-holds : (p : ℕ → Bool) (n : ℕ) → (anyBelow p n ≡ true) ↔ ((k : ℕ) × (k < n) × (p k ≡ true))
+any-holds p n = (
+  λ e. let w = least-below p n e in (leastBelow p n, w .below, w .holds),
+  λ h. go (anyBelow p n) refl h,
+)
+  where
+    go : (a : Bool) → anyBelow p n ≡ a → (k : ℕ) × (k < n) × (p k ≡ true) → a ≡ true
+    go true e h = refl
+    go false e (k, l, t) = absurd (true≢false (sym t ∙ any-clear p n .0 e k l))
+
+pub any-same : (p q : ℕ → Bool) (n : ℕ) → ((k : ℕ) → k < n → p k ≡ q k) → anyBelow p n ≡ anyBelow q n
+unfolding anyBelow
+any-same p q zero h = refl
+any-same p q (suc n) h = ap₂ _||_ (any-same p q n (λ k l. h k (omega arith))) (h n (omega arith))
+
+-- one of two tests; and a test that does not look at the number
+or-turn : (a b c d : Bool) → ((a || b) || (c || d)) ≡ ((a || c) || (b || d))
+or-turn true b c d = refl
+or-turn false true true d = refl
+or-turn false true false d = refl
+or-turn false false c d = refl
+
+pub any-or : (p q : ℕ → Bool) (n : ℕ) → anyBelow (λ k. p k || q k) n ≡ (anyBelow p n || anyBelow q n)
+unfolding anyBelow
+any-or p q zero = refl
+any-or p q (suc n) = rw (any-or p q n) (or-turn (anyBelow p n) (anyBelow q n) (p n) (q n))
+
+pub any-and : (t : Bool) (p : ℕ → Bool) (n : ℕ) → anyBelow (λ k. t && p k) n ≡ (t && anyBelow p n)
+any-and true p n = refl
+any-and false p n = any-clear (λ k. false) n .1 (λ k l. refl)
+
+-- tests that say the same have the same least number
+pub least-same : (p q : ℕ → Bool) (n : ℕ) → ((k : ℕ) → k < n → p k ≡ q k) → leastBelow p n ≡ leastBelow q n
+unfolding leastBelow
+least-same p q zero h = refl
+least-same p q (suc n) h =
+    rw (any-same p q n (λ k l. h k (omega arith)), least-same p q n (λ k l. h k (omega arith)), h n (omega arith)) refl
 
 -- ---- a loop that looks at each number from 0 on
 

@@ -5,7 +5,7 @@ use mathlib.Core.Bool.{Bool, cond, _&&_, _||_}
 use mathlib.Core.List.{List}
 use Prim.Native.Nat.{ℕ, _+_, _*_}
 use lib.Dec.{eqb, ltb}
-use lib.ListN.{getD}
+use lib.ListN.{getD, take, drop}
 use Rattle.whole.specs.Whole.{word}
 use Rattle.record.specs.declared.Frame.{Frame}
 use Rattle.record.specs.declared.Message.{Message}
@@ -15,6 +15,10 @@ use Rattle.record.specs.declared.Record.{Record}
 -- byte k of record i
 unfoldable pub byteAt : List ℕ → ℕ → ℕ → ℕ
 byteAt s i k = getD s (i * 24 + k) 0
+
+-- its bytes by themselves
+unfoldable pub bytesOf : List ℕ → ℕ → List ℕ
+bytesOf s i = take 24 (drop (i * 24) s)
 
 -- the four-byte word at byte k of record i, little-endian
 unfoldable pub wordAt : List ℕ → ℕ → ℕ → ℕ

@@ -1,8 +1,9 @@
 // One record of a layout file: its bytes and words by the paper's names, and the runs of frame bits that a field uses.
 ghost use mathlib.Core.Path.{_≡_};
-ghost use Prim.Native.Nat.{_≤_};
-ghost use Rattle.record.specs.Records.{byteAt, wordAt, frameAt, messageAt, fieldAt, recordAt, pairBelow};
-ghost use Rattle.record.specs.Runs.{messageRun, statusRun, pastEnd, meet, clash};
+ghost use Prim.Native.Nat.{_+_, _*_, _≤_};
+ghost use lib.ListN.{length};
+ghost use Rattle.record.specs.Records.{byteAt, bytesOf, wordAt, frameAt, messageAt, fieldAt, recordAt, pairBelow};
+ghost use Rattle.record.specs.Runs.{statusRun, pastEnd, meet};
 
 pub struct Frame {
     pub number: u8,
@@ -68,6 +69,16 @@ fn word(file: &[u8], i: usize, k: usize) -> u32
         byte(file, i, k + 2),
         byte(file, i, k + 3),
     )
+}
+
+// The bytes of a record that the file has. Read as record 0 of these, its bytes need not be looked for past the end.
+pub fn bytes(file: &[u8], i: usize) -> &[u8]
+    requires { ⌜ (i ≤ 1000) × (i * 24 + 24 ≤ length (now file)) ⌝ }
+    ensures { λ r. ⌜ now r ≡ bytesOf (now (file .entry)) i ⌝ }
+{
+    let at = i * 24;
+    let end = at + 24;
+    &file[at..end]
 }
 
 pub fn frame_at(file: &[u8], i: usize) -> Frame
@@ -151,15 +162,6 @@ pub fn runs_meet(a: Run, b: Run) -> bool
     (0 < a.width) & ((0 < b.width) & (((a.start as usize) < b_end) & ((b.start as usize) < a_end)))
 }
 
-pub fn message_run(g: Message, r: Field) -> Run
-    ensures { λ a. ⌜ a ≡ messageRun g r ⌝ }
-{
-    Run {
-        start: r.start,
-        width: g.width,
-    }
-}
-
 pub fn status_run(r: Field) -> Run
     ensures { λ a. ⌜ a ≡ statusRun r ⌝ }
 {
@@ -167,14 +169,4 @@ pub fn status_run(r: Field) -> Run
         start: r.place,
         width: r.status,
     }
-}
-
-pub fn fields_clash(g: Message, r: Field, e: Message, q: Field) -> bool
-    ensures { λ b. ⌜ b ≡ clash g r e q ⌝ }
-{
-    let a = message_run(g, r);
-    let b = status_run(r);
-    let x = message_run(e, q);
-    let y = status_run(q);
-    runs_meet(a, x) | runs_meet(a, y) | runs_meet(b, x) | runs_meet(b, y)
 }

@@ -3,8 +3,7 @@ pub mod Regions
 pub mod Writes
 pub mod Cells
 pub mod Places
+pub mod Forgotten
 pub mod Laws
 pub mod RoundTrip
-pub mod Tables
-pub mod Selected
-pub mod Index
+pub mod Empty

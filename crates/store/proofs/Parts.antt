@@ -78,7 +78,7 @@ module _ (b : List ℕ) (at t : ℕ) (c : List ℕ) (fits : at + t ≤ length b)
   pub part-written : part (over b at t c) at t ≡ c
   part-written = ap (take t) (drop-at (take at b) (c ++ drop (at + t) b) at length-front) ∙ take-at c (drop (at + t) b) t sized
 
-  behind : (p : ℕ) → at + t ≤ p → drop p (over b at t c) ≡ drop p b
+  pub behind : (p : ℕ) → at + t ≤ p → drop p (over b at t c) ≡ drop p b
   behind p h =
       let j : ℕ = p - (at + t) in
       let e : p ≡ at + t + j = omega arith in

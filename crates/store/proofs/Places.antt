@@ -60,17 +60,7 @@ use Rattle.store.specs.Node.{
   withStage,
   nodeWith,
 }
-use Rattle.store.specs.Start.{
-  withNumbers,
-  withFrames,
-  withMessages,
-  withFields,
-  withIndex,
-  withFrame,
-  withMessage,
-  withLaid,
-  withListed,
-}
+use Rattle.store.specs.Writing.{withNumbers, withFrames, withMessages, withFields, withIndex, withFrame, withMessage, withLaid, withListed}
 use Rattle.store.proofs.Parts.{Apart, part-first, part-within, length-part, byte-stays}
 use Rattle.store.proofs.Regions.{region, cell-read, cell-written, region-stays}
 use Rattle.store.proofs.Cells.{delivery-data}

@@ -1,3 +1,3 @@
 pub mod Memory
 pub mod Node
-pub mod Start
+pub mod Writing

@@ -1,11 +1,10 @@
 // One node in memory that the caller lends: cells are read into structs, and what changes is written back; nothing else touches the bytes.
 ghost use mathlib.Core.Path.{_≡_};
-ghost use mathlib.Core.List.{[]};
+ghost use mathlib.Core.List.{[], _++_};
 ghost use Prim.Native.Nat.{_+_, _<_, _≤_, min};
 ghost use lib.Dec.{ltb};
-ghost use lib.ListN.{length, replicate};
+ghost use lib.ListN.{length, replicate, drop};
 ghost use lib.Seq.{paste};
-ghost use Rattle.record.specs.Numbers.{tally};
 ghost use Rattle.store.specs.Node.{
   wordIn,
   wordThen,
@@ -38,44 +37,16 @@ ghost use Rattle.store.specs.Node.{
   noMessage,
   noDelivery,
   noState,
-  noStage,
   marked,
   filled,
   withDeliveries,
-  withStates,
-  withStages,
   withDelivery,
   withState,
   withStage,
   nodeWith,
   StoredStage,
 };
-ghost use Rattle.store.specs.Start.{
-  selected,
-  liesIn,
-  laidFrame,
-  isInstance,
-  firstField,
-  startMessage,
-  startMessageOrNone,
-  stateOrNone,
-  startLaid,
-  startFrames,
-  startIndex,
-  startMessages,
-  startStates,
-  startFields,
-  startOf,
-  withNumbers,
-  withFrames,
-  withMessages,
-  withFields,
-  withIndex,
-  withFrame,
-  withMessage,
-  withLaid,
-  withListed,
-};
+ghost use Rattle.store.specs.Writing.{emptyNode, withNumbers, withFrame, withMessage, withLaid, withListed};
 use layout::Counts;
 
 // ---- what the layout says
@@ -479,14 +450,21 @@ pub fn put_data(node: &mut [u8], f: usize, bytes: &[u8])
     copy(&mut node[at..end], bytes);
 }
 
-// The data of a delivery go too, so that of two nodes one cannot tell what an earlier round brought.
-pub fn forget_delivery(node: &mut [u8], f: usize)
-    requires { ⌜ (f < 32) × (length (now node) ≡ nodeSize) ⌝ }
-    ensures { λ _. ⌜ nodeOf (now (node .exit)) ≡ nodeWith (nodeOf (now (node .entry))) (withDelivery (stateOf (now (node .entry))) f noDelivery) ⌝ }
+fn fill(c: &mut [u8], k: u8)
+    ensures { λ _. ⌜ now (c .exit) ≡ replicate (length (now (c .entry))) k ⌝ }
 {
-    let at = 1475 + f * 33;
-    let end = at + 33;
-    copy(&mut node[at..end], &[0u8; 33]);
+    for i in 0..c.len() {
+        c[i] = k;
+    }
+}
+
+// The first n frames' deliveries. Their data go too, so that of two nodes one cannot tell what an earlier round brought.
+pub fn forget_deliveries(node: &mut [u8], n: usize)
+    requires { ⌜ (n ≤ 32) × (length (now node) ≡ nodeSize) ⌝ }
+    ensures { λ _. ⌜ nodeOf (now (node .exit)) ≡ nodeWith (nodeOf (now (node .entry))) (withDeliveries (stateOf (now (node .entry))) (replicate n noDelivery ++ drop n (stateOf (now (node .entry)) .deliveries))) ⌝ }
+{
+    let end = 1475 + n * 33;
+    fill(&mut node[1475..end], 0);
 }
 
 pub fn put_state(node: &mut [u8], m: usize, s: MessageState)
@@ -507,7 +485,16 @@ pub fn put_stage(node: &mut [u8], d: usize, s: Stage)
 
 // ---- writing the layout
 
-fn put_counts(node: &mut [u8], frames: u8, messages: u8, fields: u8)
+// No frames, messages or fields, whatever the memory held.
+pub fn clear(node: &mut [u8])
+    requires { ⌜ length (now node) ≡ nodeSize ⌝ }
+    ensures { λ _. ⌜ nodeOf (now (node .exit)) ≡ emptyNode ⌝ }
+{
+    fill(&mut node[0..2851], 0);
+    fill(&mut node[2851..2979], 2);
+}
+
+pub fn put_counts(node: &mut [u8], frames: u8, messages: u8, fields: u8)
     requires { ⌜ length (now node) ≡ nodeSize ⌝ }
     ensures { λ _. ⌜ nodeOf (now (node .exit)) ≡ record { layout = withNumbers (layoutOf (now (node .entry))) frames messages fields; state = stateOf (now (node .entry)) } ⌝ }
 {
@@ -516,7 +503,7 @@ fn put_counts(node: &mut [u8], frames: u8, messages: u8, fields: u8)
     node[2] = fields;
 }
 
-fn put_frame(node: &mut [u8], f: usize, h: Frame)
+pub fn put_frame(node: &mut [u8], f: usize, h: Frame)
     requires { ⌜ (f < 32) × (length (now node) ≡ nodeSize) ⌝ }
     ensures { λ _. ⌜ nodeOf (now (node .exit)) ≡ record { layout = withFrame (layoutOf (now (node .entry))) f h; state = stateOf (now (node .entry)) } ⌝ }
 {
@@ -525,7 +512,7 @@ fn put_frame(node: &mut [u8], f: usize, h: Frame)
     write_frame(&mut node[at..end], h);
 }
 
-fn put_message(node: &mut [u8], m: usize, g: Message)
+pub fn put_message(node: &mut [u8], m: usize, g: Message)
     requires { ⌜ (m < 32) × (length (now node) ≡ nodeSize) ⌝ }
     ensures { λ _. ⌜ nodeOf (now (node .exit)) ≡ record { layout = withMessage (layoutOf (now (node .entry))) m g; state = stateOf (now (node .entry)) } ⌝ }
 {
@@ -534,7 +521,7 @@ fn put_message(node: &mut [u8], m: usize, g: Message)
     write_message(&mut node[at..end], g);
 }
 
-fn put_laid(node: &mut [u8], d: usize, x: record::Field)
+pub fn put_laid(node: &mut [u8], d: usize, x: record::Field)
     requires { ⌜ (d < 128) × (length (now node) ≡ nodeSize) ⌝ }
     ensures { λ _. ⌜ nodeOf (now (node .exit)) ≡ record { layout = withLaid (layoutOf (now (node .entry))) d x; state = stateOf (now (node .entry)) } ⌝ }
 {
@@ -543,217 +530,9 @@ fn put_laid(node: &mut [u8], d: usize, x: record::Field)
     write_laid(&mut node[at..end], x);
 }
 
-fn put_listed(node: &mut [u8], i: usize, d: u8)
+pub fn put_listed(node: &mut [u8], i: usize, d: u8)
     requires { ⌜ (i < 128) × (length (now node) ≡ nodeSize) ⌝ }
     ensures { λ _. ⌜ nodeOf (now (node .exit)) ≡ record { layout = withListed (layoutOf (now (node .entry))) i d; state = stateOf (now (node .entry)) } ⌝ }
 {
     node[1347 + i] = d;
-}
-
-// ---- the start: frames and the index
-
-// Frame f of the layout, whose fields stand in the index from place first on, or none.
-fn laid_frame(file: &[u8], frames: usize, f: u8, first: u8, fields: u8) -> Frame
-    ensures { λ r. ⌜ r ≡ laidFrame (now (file .entry)) frames f first fields ⌝ }
-{
-    if frames <= f as usize {
-        return Frame {
-            length: 0,
-            order: 0,
-            direction: 0,
-            trigger: 0,
-            first: 0,
-            fields: 0,
-        };
-    }
-    let h = record::frame_at(file, f as usize);
-    Frame {
-        length: h.length,
-        order: h.order,
-        direction: h.direction,
-        trigger: h.trigger,
-        first,
-        fields,
-    }
-}
-
-// The numbers of the fields that lie in frame f go into the index from a place on; gives the place after them.
-fn list_fields(node: &mut [u8], file: &[u8], at: usize, fields: usize, f: u8, from: usize) -> usize
-    requires { ⌜ (at ≤ 64) × (fields ≤ 128) × (from + tally (liesIn (now file) at f) fields ≤ 128) × (length (now node) ≡ nodeSize) ⌝ }
-    ensures { λ r. ⌜ (r ≡ from + tally (liesIn (now (file .entry)) at f) fields) × (nodeOf (now (node .exit)) ≡ record { layout = withIndex (layoutOf (now (node .entry))) (paste (layoutOf (now (node .entry)) .index) from (selected (liesIn (now (file .entry)) at f) fields) (tally (liesIn (now (file .entry)) at f) fields)); state = stateOf (now (node .entry)) }) ⌝ }
-{
-    let mut k = from;
-    for d in 0..fields {
-        let x = record::field_at(file, at + d);
-        if x.frame == f {
-            put_listed(&mut *node, k, d as u8);
-            k += 1;
-        }
-    }
-    k
-}
-
-fn clear_index(node: &mut [u8])
-    requires { ⌜ length (now node) ≡ nodeSize ⌝ }
-    ensures { λ _. ⌜ nodeOf (now (node .exit)) ≡ record { layout = withIndex (layoutOf (now (node .entry))) (replicate 128 0); state = stateOf (now (node .entry)) } ⌝ }
-{
-    for i in 0usize..128 {
-        put_listed(&mut *node, i, 0);
-    }
-}
-
-// The frames, none of them delivered, and the index over zeros.
-fn start_frames(node: &mut [u8], file: &[u8], frames: usize, at: usize, fields: usize)
-    requires { ⌜ (at ≤ 64) × (fields ≤ 128) × (length (now node) ≡ nodeSize) ⌝ }
-    ensures { λ _. ⌜ nodeOf (now (node .exit)) ≡ record { layout = withIndex (withFrames (layoutOf (now (node .entry))) (startFrames (now (file .entry)) frames at fields)) (startIndex (now (file .entry)) at fields); state = withDeliveries (stateOf (now (node .entry))) (replicate 32 noDelivery) } ⌝ }
-{
-    clear_index(&mut *node);
-    let mut k = 0;
-    for f in 0u8..32 {
-        let end = list_fields(&mut *node, file, at, fields, f, k);
-        let h = laid_frame(file, frames, f, k as u8, (end - k) as u8);
-        put_frame(&mut *node, f as usize, h);
-        forget_delivery(&mut *node, f as usize);
-        k = end;
-    }
-}
-
-// ---- the start: messages
-
-// The first of the fields, whose records begin at `at`, that names message m.
-fn first_field(file: &[u8], at: usize, fields: usize, m: u8) -> usize
-    requires { ⌜ (at ≤ 64) × (fields ≤ 128) ⌝ }
-    ensures { λ r. ⌜ (r ≡ firstField (now (file .entry)) at fields m) × (r ≤ fields) ⌝ }
-{
-    for d in 0..fields {
-        let x = record::field_at(file, at + d);
-        if x.message == m {
-            return d;
-        }
-    }
-    fields
-}
-
-// How many of them name it.
-fn field_number(file: &[u8], at: usize, fields: usize, m: u8) -> usize
-    requires { ⌜ (at ≤ 64) × (fields ≤ 128) ⌝ }
-    ensures { λ r. ⌜ (r ≡ tally (isInstance (now (file .entry)) at m) fields) × (r ≤ fields) ⌝ }
-{
-    let mut t = 0;
-    for d in 0..fields {
-        let x = record::field_at(file, at + d);
-        if x.message == m {
-            t += 1;
-        }
-    }
-    t
-}
-
-// Message m of the layout.
-fn start_message(file: &[u8], frames: usize, at: usize, fields: usize, m: u8) -> Message
-    requires { ⌜ (frames ≤ 32) × (at ≤ 64) × (fields ≤ 128) ⌝ }
-    ensures { λ r. ⌜ r ≡ startMessage (now (file .entry)) frames at fields m ⌝ }
-{
-    let g = record::message_at(file, frames + m as usize);
-    let first = first_field(file, at, fields, m);
-    let x = record::field_at(file, at + first);
-    Message {
-        width: g.width,
-        sign: g.sign,
-        direction: g.direction,
-        agreement: g.agreement,
-        filter: g.filter,
-        statusbit: x.status,
-        first: first as u8,
-        fields: field_number(file, at, fields, m) as u8,
-        x1: g.x1,
-        x2: g.x2,
-    }
-}
-
-// Message m of the layout, or none.
-fn start_message_or_none(
-    file: &[u8],
-    frames: usize,
-    messages: usize,
-    fields: usize,
-    m: u8,
-) -> Message
-    requires { ⌜ (frames ≤ 32) × (messages ≤ 32) × (fields ≤ 128) ⌝ }
-    ensures { λ r. ⌜ r ≡ startMessageOrNone (now (file .entry)) frames messages fields m ⌝ }
-{
-    if (m as usize) < messages {
-        return start_message(file, frames, frames + messages, fields, m);
-    }
-    no_message()
-}
-
-// The state of message m at start, which has a status bit or none, or that of no message.
-fn state_or_none(file: &[u8], frames: usize, messages: usize, m: u8, statusbit: u8) -> MessageState
-    requires { ⌜ frames ≤ 32 ⌝ }
-    ensures { λ r. ⌜ r ≡ stateOrNone (now (file .entry)) frames messages statusbit m ⌝ }
-{
-    if (m as usize) < messages {
-        let g = record::message_at(file, frames + m as usize);
-        return MessageState {
-            valid: (statusbit == 0) as u8,
-            status: 21,
-            held: g.initial,
-            old: g.initial,
-        };
-    }
-    no_state()
-}
-
-fn start_messages(node: &mut [u8], file: &[u8], frames: usize, messages: usize, fields: usize)
-    requires { ⌜ (frames ≤ 32) × (messages ≤ 32) × (fields ≤ 128) × (length (now node) ≡ nodeSize) ⌝ }
-    ensures { λ _. ⌜ nodeOf (now (node .exit)) ≡ record { layout = withMessages (layoutOf (now (node .entry))) (startMessages (now (file .entry)) frames messages fields); state = withStates (stateOf (now (node .entry))) (startStates (now (file .entry)) frames messages fields) } ⌝ }
-{
-    for m in 0u8..32 {
-        let g = start_message_or_none(file, frames, messages, fields, m);
-        let s = state_or_none(file, frames, messages, m, g.statusbit);
-        put_message(&mut *node, m as usize, g);
-        put_state(&mut *node, m as usize, s);
-    }
-}
-
-// ---- the start: fields
-
-// What the layout, whose fields' records begin at `at`, says of field d, or of none.
-fn start_laid(file: &[u8], at: usize, fields: usize, d: usize) -> record::Field
-    requires { ⌜ (at ≤ 64) × (d < 128) ⌝ }
-    ensures { λ r. ⌜ r ≡ startLaid (now (file .entry)) at fields d ⌝ }
-{
-    if fields <= d {
-        return record::Field {
-            message: 0,
-            frame: 0,
-            start: 0,
-            status: 0,
-            place: 0,
-        };
-    }
-    record::field_at(file, at + d)
-}
-
-// All fields are gone.
-fn start_fields(node: &mut [u8], file: &[u8], at: usize, fields: usize)
-    requires { ⌜ (at ≤ 64) × (length (now node) ≡ nodeSize) ⌝ }
-    ensures { λ _. ⌜ nodeOf (now (node .exit)) ≡ record { layout = withFields (layoutOf (now (node .entry))) (startFields (now (file .entry)) at fields); state = withStages (stateOf (now (node .entry))) (replicate 128 noStage) } ⌝ }
-{
-    for d in 0usize..128 {
-        put_laid(&mut *node, d, start_laid(file, at, fields, d));
-        put_stage(&mut *node, d, Stage::Gone(2));
-    }
-}
-
-// The node of an accepted layout file, over whatever the memory held.
-pub fn start(node: &mut [u8], file: &[u8], frames: usize, messages: usize, fields: usize)
-    requires { ⌜ (frames ≤ 32) × (messages ≤ 32) × (fields ≤ 128) × (length (now node) ≡ nodeSize) ⌝ }
-    ensures { λ _. ⌜ nodeOf (now (node .exit)) ≡ startOf (now (file .entry)) frames messages fields ⌝ }
-{
-    put_counts(&mut *node, frames as u8, messages as u8, fields as u8);
-    start_frames(&mut *node, file, frames, frames + messages, fields);
-    start_messages(&mut *node, file, frames, messages, fields);
-    start_fields(node, file, frames + messages, fields);
 }

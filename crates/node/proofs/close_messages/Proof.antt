@@ -30,17 +30,8 @@ loop-holds c = (ap (λ (r : Counts). r .messages) (c .counts .ensures), search n
 message-at-requires : tie.Need-message-at-requires Inv-loop μ-loop
 message-at-requires c κs = search needs
 
-state-at-requires : tie.Need-state-at-requires Inv-loop μ-loop
-state-at-requires c κs = search needs
-
-cast-closed-state : tie.Need-cast-closed-state Inv-loop μ-loop
-cast-closed-state c = search needs
-
-closed-state-requires : tie.Need-closed-state-requires Inv-loop μ-loop
-closed-state-requires c κs = search needs
-
-put-state-requires : tie.Need-put-state-requires Inv-loop μ-loop
-put-state-requires c κs = search needs
+close-message-requires : tie.Need-close-message-requires Inv-loop μ-loop
+close-message-requires c κs = search needs
 
 add-m : tie.Need-add-m Inv-loop μ-loop
 add-m c = search needs
@@ -58,11 +49,10 @@ loop-again c =
     let inv = loop .loop .inv in
     ⊎-elim
     (λ w.
-    rw (w .9) (
+    rw (w .5) (
       inv .0,
       search needs,
-      close-turn (nodeOf b) m room (inv .2) (read .message-at .ensures) (omega arith) (not-true _ (w .0 .taken)) (w .2 .ensures) (w .4 .ensures)
-          (w .6 .ensures),
+      close-turn (nodeOf b) m room (inv .2) (read .message-at .ensures) (omega arith) (not-true _ (w .0 .taken)) (w .2 .ensures),
     ))
     (λ w. rw (w .1) (inv .0, inv .1, close-skip (nodeOf b) m room (inv .2) (read .message-at .ensures) (omega arith) (not-false _ (w .0 .left))))
     (c .if1 .came)
@@ -85,10 +75,7 @@ close-messages-spec =
     counts-requires
     loop-holds
     message-at-requires
-    state-at-requires
-    cast-closed-state
-    closed-state-requires
-    put-state-requires
+    close-message-requires
     add-m
     loop-less
     loop-again

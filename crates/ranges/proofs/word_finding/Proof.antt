@@ -2,7 +2,7 @@
 -- Assumes nothing.
 use mathlib.Core.Path.{refl}
 use borrow.Author.Needs.{needs}
-use Rattle.ranges.specs.Ranges.{wordFinding}
+use Rattle.ranges.specs.Ranges.{wrongIf, wordFinding}
 use Rattle.ranges.proofs.word_finding.Statement.{statement}
 use Rattle.ranges.proofs.word_finding.Tie as tie
 
@@ -13,12 +13,13 @@ returns : tie.Need-returns
 unfolding wordFinding
 returns c = rw (c .if1 .taken) refl
 
-wrong-if-requires : tie.Need-wrong-if-requires
-wrong-if-requires c κs = search needs
-
 returns-2 : tie.Need-returns-2
-unfolding wordFinding
-returns-2 c = rw (c .before .if1 .left, ← c .before .before .does-word-fit .ensures) (c .wrong-if .ensures)
+unfolding wrongIf wordFinding
+returns-2 c = rw (c .before .if1 .left, ← c .before .before .does-word-fit .ensures, c .if2 .taken) refl
+
+returns-3 : tie.Need-returns-3
+unfolding wrongIf wordFinding
+returns-3 c = rw (c .before .if1 .left, ← c .before .before .does-word-fit .ensures, c .if2 .left) refl
 
 pub word-finding-spec : {M : Type 1} → statement M
-word-finding-spec = tie.close (tie.spec does-word-fit-requires returns wrong-if-requires returns-2)
+word-finding-spec = tie.close (tie.spec does-word-fit-requires returns returns-2 returns-3)

@@ -1,0 +1,6 @@
+pub mod Tables
+pub mod Counts
+pub mod Selected
+pub mod Index
+pub mod Placing
+pub mod Regions

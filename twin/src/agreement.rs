@@ -1,5 +1,7 @@
 //! Agreement on the values of a message's counting instances.
 
+use std::collections::BTreeMap;
+
 use crate::bits;
 use crate::float;
 use crate::layout::Sign;
@@ -30,10 +32,30 @@ fn average(values: &[i64]) -> i64 {
 
 /// The value carried by more counting instances than every other value.
 fn vote(values: &[i64]) -> Option<i64> {
-    let carried = |value: i64| values.iter().filter(|&&other| other == value).count();
-    let ahead = |value: i64| {
-        let mut others = values.iter().filter(|&&other| other != value);
-        others.all(|&other| carried(other) < carried(value))
+    match leading(values).0[..] {
+        [value] => Some(value),
+        _ => None,
+    }
+}
+
+/// The values that no other value is carried more often than, and by how many instances each is.
+pub fn leading(values: &[i64]) -> (Vec<i64>, usize) {
+    let mut carried: BTreeMap<i64, usize> = BTreeMap::new();
+    for &value in values {
+        *carried.entry(value).or_default() += 1;
+    }
+    let most = carried.values().copied().max().unwrap_or(0);
+    carried.retain(|_, &mut times| times == most);
+    (carried.into_keys().collect(), most)
+}
+
+/// How many values can lead among so many instances, and how many instances carry each: the other
+/// values are carried by fewer, so by none where each is carried by one.
+pub fn sizes(instances: usize) -> Vec<(usize, usize)> {
+    let all = (1..=instances).flat_map(|values| (1..=instances).map(move |each| (values, each)));
+    let can_be = |&(values, each): &(usize, usize)| match each {
+        1 => values == instances,
+        _ => values * each <= instances,
     };
-    values.iter().copied().find(|&value| ahead(value))
+    all.filter(can_be).collect()
 }

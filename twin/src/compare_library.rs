@@ -14,7 +14,8 @@ const FILES: u64 = 20_000;
 const SEED: u64 = 1;
 
 /// With at least the default number of calls and files, all that can occur has to occur so often;
-/// each refusal at each byte that it can give, and what is rare of floats, so often.
+/// each refusal at each byte that it can give, each size of a vote, and what is rare of floats, so
+/// often.
 const LEAST: u64 = 100;
 const LEAST_RARE: u64 = 20;
 
@@ -88,6 +89,10 @@ fn conclude(task: &Task, counts: &Counts) -> ExitCode {
     }
     if all_files && counts.least_place() < LEAST_RARE {
         println!("a refusal was given at some byte fewer than {LEAST_RARE} times");
+        return ExitCode::from(1);
+    }
+    if all_calls && counts.whole.least_vote() < LEAST_RARE {
+        println!("a size of a vote occurred fewer than {LEAST_RARE} times");
         return ExitCode::from(1);
     }
     if all_calls && counts.floats.least_rare() < LEAST_RARE {

@@ -2,6 +2,7 @@
 
 use std::fmt;
 
+use crate::bits;
 use crate::calls::{Call, NAMES};
 use crate::filter::passes;
 use crate::float_counts::FloatCounts;
@@ -9,6 +10,7 @@ use crate::layout::{
     faults, Fault, Sign, Verdict, FIELD, FRAME, MESSAGE, RECORD, REFUSALS, UNUSED, WIDTH,
 };
 use crate::node::{Node, ACCESS, ID, OK};
+use crate::whole_counts::WholeCounts;
 use crate::wrong::{Place, Row, FLOAT, PLACES};
 
 /// The answers that each call can give, in the order of `Call::kind`.
@@ -39,10 +41,11 @@ pub struct Counts {
     calls_on_damaged: u64,
     /// By call and answer.
     answers: [[u64; 24]; 8],
-    /// By filter: values that did not pass, and that did.
-    filters: [[u64; 2]; 14],
     /// Fields of whole numbers packed or delivered, by order, sign and width less one.
     fields: [[[u64; 32]; 2]; 2],
+    /// Status bits that closings read or assemblies wrote, by order and direction: 0, and 1.
+    statuses: [[[u64; 2]; 2]; 2],
+    pub whole: WholeCounts,
     pub floats: FloatCounts,
 }
 
@@ -93,16 +96,22 @@ impl Counts {
         match call {
             _ if answer != OK => (),
             Call::Send { message, value } => self.filter(node, *message as usize, *value),
-            Call::Assemble { frame, .. } | Call::Deliver { frame, .. } => {
+            Call::Assemble { frame, .. } => {
                 self.fields_of(node, *frame as usize);
+                self.statuses_of(node, *frame as usize);
             }
+            Call::Deliver { frame, .. } => self.fields_of(node, *frame as usize),
             Call::Close => {
                 for number in 0..node.states.len() {
                     let agreed = node.agreed(number);
-                    self.floats_of(node, number, agreed.is_ok());
+                    self.closing(node, number, agreed.is_ok());
                     if let Ok(value) = agreed {
                         self.filter(node, number, value);
                     }
+                }
+                let frames = node.layout.frames.iter().enumerate();
+                for (number, _) in frames.filter(|(_, frame)| !frame.sent) {
+                    self.statuses_of(node, number);
                 }
             }
             _ => (),
@@ -130,19 +139,20 @@ impl Counts {
         ];
         let places = self.places.iter_mut().flatten().flatten();
         let answers = self.answers.iter_mut().flatten();
-        let filters = self.filters.iter_mut().flatten();
         let fields = self.fields.iter_mut().flatten().flatten();
+        let statuses = self.statuses.iter_mut().flatten().flatten();
         let all = self.files.iter_mut().chain(places).chain(single);
-        let all = all.chain(answers).chain(filters).chain(fields);
-        all.chain(self.floats.all())
+        let all = all.chain(answers).chain(fields).chain(statuses);
+        all.chain(self.whole.all()).chain(self.floats.all())
     }
 
-    fn floats_of(&mut self, node: &Node, number: usize, agrees: bool) {
+    fn closing(&mut self, node: &Node, number: usize, agrees: bool) {
         let message = &node.layout.messages[number];
-        if let Some(counting) = node.counting(number) {
-            if message.sign == Sign::Float && !counting.is_empty() {
-                self.floats.closing(message, &counting, agrees);
-            }
+        let counting = node.counting(number).unwrap_or_default();
+        match (message.sign, counting.is_empty()) {
+            (_, true) => (),
+            (Sign::Float, _) => self.floats.closing(message, &counting, agrees),
+            _ => self.whole.closing(message, &counting),
         }
     }
 
@@ -150,9 +160,9 @@ impl Counts {
         let message = &node.layout.messages[number];
         let old = node.states[number].old;
         let passed = passes(message, value, old);
-        self.filters[usize::from(message.filter)][usize::from(passed)] += 1;
-        if message.sign == Sign::Float {
-            self.floats.filter(message, value, old, passed);
+        match message.sign {
+            Sign::Float => self.floats.filter(message, value, old, passed),
+            _ => self.whole.filter(message, passed),
         }
     }
 
@@ -166,6 +176,21 @@ impl Counts {
                     let signed = usize::from(sign == Sign::Signed);
                     self.fields[usize::from(big)][signed][message.width - 1] += 1;
                 }
+            }
+        }
+    }
+
+    /// The status bits of a sent frame, or of a received one that was delivered.
+    fn statuses_of(&mut self, node: &Node, number: usize) {
+        let frame = &node.layout.frames[number];
+        for field in node.layout.fields_of_frame(number) {
+            let is_set = |place| match &node.delivered[number] {
+                Some(data) => Some(bits::bit(frame, data, place)),
+                None => frame.sent.then_some(node.states[field.message].valid),
+            };
+            if let Some(is_set) = field.status.and_then(is_set) {
+                let [big, sent, is_set] = [frame.big, frame.sent, is_set].map(usize::from);
+                self.statuses[big][sent][is_set] += 1;
             }
         }
     }
@@ -184,9 +209,13 @@ impl Counts {
         let files = files.chain([self.mixed, self.unused_and_width]);
         let answers = (0..8).flat_map(|kind| ANSWERS[kind].iter().map(move |&a| (kind, a)));
         let answers = answers.map(|(kind, answer)| self.answers[kind][answer]);
-        let floats = [self.floats.least(), self.floats.least_send()];
-        let calls = answers.chain([self.least_filter(), self.least_field()]);
-        let calls = calls.chain(floats);
+        let fields = [self.least_field(), self.least_status()];
+        let numbers = [
+            self.whole.least(),
+            self.floats.least(),
+            self.floats.least_send(),
+        ];
+        let calls = answers.chain(fields).chain(numbers);
         (files.min().unwrap_or(0), calls.min().unwrap_or(0))
     }
 
@@ -203,15 +232,13 @@ impl Counts {
         counts.min().unwrap_or(0)
     }
 
-    /// Each filter passes some values and not others, but 0 passes all and 1 none.
-    fn least_filter(&self) -> u64 {
-        let both = self.filters[2..].iter().flatten().copied();
-        let all = both.chain([self.filters[0][1], self.filters[1][0]]);
-        all.min().unwrap_or(0)
-    }
-
     fn least_field(&self) -> u64 {
         let all = self.fields.iter().flatten().flatten();
+        all.copied().min().unwrap_or(0)
+    }
+
+    fn least_status(&self) -> u64 {
+        let all = self.statuses.iter().flatten().flatten();
         all.copied().min().unwrap_or(0)
     }
 }
@@ -261,10 +288,15 @@ impl fmt::Display for Counts {
         }
         writeln!(
             f,
-            "  each filter passed and not at least {} times; each width, sign and order at least {} times",
-            self.least_filter(),
+            "  each width, sign and order at least {} times",
             self.least_field()
         )?;
+        let [little, big] = self.statuses.map(|[received, sent]| {
+            let [received, sent] = [received, sent].map(|[zero, one]| format!("{zero} and {one}"));
+            format!("received {received}, sent {sent}")
+        });
+        writeln!(f, "  status bits 0 and 1: little {little}; big {big}")?;
+        self.whole.fmt(f)?;
         self.floats.fmt(f)?;
         writeln!(
             f,

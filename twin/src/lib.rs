@@ -20,4 +20,5 @@ pub mod plans;
 pub mod player;
 pub mod random;
 pub mod scripts;
+pub mod whole_counts;
 pub mod wrong;

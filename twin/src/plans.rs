@@ -40,6 +40,12 @@ pub const EIGHT_EACH: Plan = Plan {
     ..LARGEST
 };
 
+/// Sixteen messages with many fields.
+const MANY_EACH: Plan = Plan {
+    each: (5, 7),
+    ..EIGHT_EACH
+};
+
 /// Floats only, all received, with one to eight fields each.
 pub const FLOATS: Plan = Plan {
     frames: 16,
@@ -54,7 +60,8 @@ pub fn valid(random: &mut Random) -> Vec<u8> {
     let plan = match random.between(0, 7) {
         0 => LARGEST,
         1 => EIGHT_EACH,
-        2..=4 => Plan {
+        2 => MANY_EACH,
+        3..=5 => Plan {
             frames: random.between(0, 3),
             messages: random.between(0, 4),
             fields: 128,
@@ -128,7 +135,11 @@ fn message_record(random: &mut Random, number: usize, direction: u8, is_float: b
     record[2] = edge_or_any(random, 1, 32);
     record[3] = random.byte(0, 1);
     record[4] = direction;
-    record[5] = if direction == 0 { random.byte(0, 2) } else { 0 };
+    if direction == 0 {
+        // Of whole numbers, votes have the most cases.
+        let agreements: &[u8] = if is_float { &[0, 1, 2] } else { &[0, 1, 2, 2] };
+        record[5] = random.pick(agreements).unwrap_or(0);
+    }
     record[6] = random.byte(0, 13);
     if is_float {
         record[2..4].copy_from_slice(&[32, 2]);
@@ -140,6 +151,10 @@ fn message_record(random: &mut Random, number: usize, direction: u8, is_float: b
     }
     if uses_x2(record[6]) {
         put_pattern(random, &mut record, 12);
+        if is_mask(record[6]) && random.once_in(2) {
+            // Else mostly no value under the mask is x2.
+            (12..16).for_each(|at| record[at] &= record[at - 4]);
+        }
     }
     put_pattern(random, &mut record, 16);
     record

@@ -1,5 +1,6 @@
 //! Generators of call sequences, and of other orders of their calls.
 
+use crate::agreement::sizes;
 use crate::bits;
 use crate::calls::Call;
 use crate::float::SIGN;
@@ -15,11 +16,11 @@ pub fn script(random: &mut Random, layout: &Layout) -> Vec<Call> {
     let longest = 10 + layout.frames.len() + layout.messages.len();
     for _ in 0..writer.random.between(1, 6) {
         writer.begin_round();
-        if writer.calm {
-            writer.deliver_each();
-        }
         for _ in 0..writer.random.between(0, longest) {
             writer.step();
+        }
+        if writer.calm {
+            writer.deliver_each();
         }
         writer.push(Call::Close);
         if writer.random.once_in(2) {
@@ -50,6 +51,8 @@ struct Writer<'a> {
     favourites: Vec<[i64; 2]>,
     /// And what the other values have in common if the message is a float.
     themes: Vec<Theme>,
+    /// For each field the value that its next delivery carries, if it was dealt one.
+    dealt: Vec<Option<i64>>,
     /// Are all deliveries of this round valid, with all status bits set? Then many instances count.
     calm: bool,
     calls: Vec<Call>,
@@ -62,6 +65,7 @@ impl<'a> Writer<'a> {
             node: Node::start(layout),
             favourites: vec![[0; 2]; layout.messages.len()],
             themes: vec![Theme::Any; layout.messages.len()],
+            dealt: vec![None; layout.fields.len()],
             calm: false,
             calls: Vec::new(),
         }
@@ -73,7 +77,7 @@ impl<'a> Writer<'a> {
     }
 
     fn begin_round(&mut self) {
-        self.calm = self.random.once_in(3);
+        self.calm = self.random.once_in(2);
         for message in 0..self.favourites.len() {
             // Often the same as before, so that new and old values are alike.
             if self.calls.is_empty() || self.random.once_in(2) {
@@ -181,6 +185,11 @@ impl<'a> Writer<'a> {
     }
 
     fn deliver_each(&mut self) {
+        for message in 0..self.node.states.len() {
+            if !self.is_float(message) {
+                self.deal(message);
+            }
+        }
         for number in 0..self.node.layout.frames.len() {
             if !self.node.layout.frames[number].sent {
                 self.deliver_to(number as u64);
@@ -191,12 +200,13 @@ impl<'a> Writer<'a> {
     fn deliver_to(&mut self, frame: u64) {
         let mut data = self.data(frame);
         let layout = self.node.layout;
-        for field in layout.fields.iter() {
+        for (place, field) in layout.fields.iter().enumerate() {
             let carrier = &layout.frames[field.frame];
             if field.frame as u64 != frame || carrier.length != data.len() {
                 continue;
             }
-            let value = self.instance(field.message);
+            let dealt = self.dealt[place].take();
+            let value = dealt.unwrap_or_else(|| self.instance(field.message));
             bits::pack(layout, field, value, &mut data);
             if let Some(place) = field.status {
                 let set = self.calm || !self.random.once_in(4);
@@ -281,6 +291,44 @@ impl<'a> Writer<'a> {
         }
     }
 
+    /// Deals values to the fields of a message so that each size of a vote on them comes up.
+    fn deal(&mut self, message: usize) {
+        let fields = self.node.layout.fields.iter().enumerate();
+        let own = fields.filter(|(_, field)| field.message == message);
+        let own: Vec<usize> = own.map(|(place, _)| place).collect();
+        let (leading, each) = self.random.pick(&sizes(own.len())).unwrap_or((1, 1));
+        let mut values = Vec::new();
+        while values.len() < own.len() {
+            let left = own.len() - values.len();
+            let times = match values.len() < leading * each {
+                true => each,
+                false => self.random.between(1, left.min(each - 1)),
+            };
+            let value = self.value_beside(message, &values);
+            values.extend(vec![value; times]);
+        }
+        self.random.shuffle(&mut values);
+        for (place, value) in own.into_iter().zip(values) {
+            self.dealt[place] = Some(value);
+        }
+    }
+
+    /// A value of the message that is none of these, unless it is so narrow that none is found.
+    fn value_beside(&mut self, message: usize, values: &[i64]) -> i64 {
+        let mut value = self.value(message);
+        for _ in 0..8 {
+            if values.contains(&value) {
+                value = self.any_value(message);
+            }
+        }
+        value
+    }
+
+    fn any_value(&mut self, message: usize) -> i64 {
+        let (least, most) = bits::range(&self.node.layout.messages[message]).into_inner();
+        least + self.random.between(0, (most - least) as usize) as i64
+    }
+
     /// What a frame carries of the message: often one of the round's favourites. Of a float also one
     /// that is not finite.
     fn instance(&mut self, message: usize) -> i64 {
@@ -291,7 +339,12 @@ impl<'a> Writer<'a> {
             return value.unwrap_or(any);
         }
         let theme = self.themes[message];
-        match self.random.between(0, 15) {
+        let number = match theme {
+            // Mostly all, so that all are set aside.
+            Theme::NotFinite => self.random.between(3, 25),
+            _ => self.random.between(0, 15),
+        };
+        match number {
             0..=3 => one,
             4 | 5 => other,
             6 | 7 => self.value(message),
@@ -324,13 +377,19 @@ impl<'a> Writer<'a> {
         if self.is_float(message) {
             return self.float(message);
         }
+        let any = self.any_value(message);
         let state = &self.node.states[message];
         let message = &self.node.layout.messages[message];
         let (least, most) = bits::range(message).into_inner();
         let (x1, x2) = (message.x1, message.x2);
-        let any = least + self.random.between(0, (most - least) as usize) as i64;
         // The bits under the mask from one pattern, the others from any.
         let masked = |pattern: u32| bits::value(message, pattern & x1 | bits::pattern(any) & !x1);
+        // What filters that few values pass, or few do not, are about.
+        let wanted = match message.filter {
+            2 | 3 => masked(x2),
+            6 | 7 => masked(bits::pattern(state.old)),
+            _ => state.old,
+        };
         let values = [
             any,
             any,
@@ -341,8 +400,9 @@ impl<'a> Writer<'a> {
             state.held,
             bits::value(message, x1),
             bits::value(message, x2),
-            masked(x2),
-            masked(bits::pattern(state.old)),
+            wanted,
+            wanted,
+            wanted,
         ];
         let value = self.random.pick(&values).unwrap_or(any);
         let beside = self.random.pick(&[-1, 0, 0, 0, 1]).unwrap_or(0);
@@ -355,7 +415,7 @@ impl<'a> Writer<'a> {
         if !self.random.once_in(8) {
             return value;
         }
-        if self.is_float(message) && self.random.once_in(2) {
+        if self.is_float(message) && !self.random.once_in(4) {
             return not_finite(self.random).into();
         }
         let message = &self.node.layout.messages[message];

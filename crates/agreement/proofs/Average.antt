@@ -1,6 +1,6 @@
 -- The average's laws. The fraction is dropped toward zero: n times the mean's distance from zero does not pass the sum's, n times one more does,
 -- and the mean is on the sum's side or zero. It lies between any two bounds between which all instances lie, since sums and quotients keep the
--- order, and n times a bound divided by n is the bound. And there is an average exactly of a group.
+-- order, and n times a bound divided by n is the bound. And there is an average exactly of one to eight instances that messages hold.
 -- Assumes nothing.
 use mathlib.Core.Path.{_≡_, refl, _∙_}
 use mathlib.Core.Bool.{Bool, true, false, and-eq-true-iff}
@@ -14,8 +14,8 @@ use lib.ListN.{length}
 use lib.Signed.{leZ}
 use Rattle.whole.specs.Whole.{allOf}
 use Rattle.agreement.specs.declared.Agreed.the-variants.{Value}
-use Rattle.agreement.specs.Agreement.{sumOf, meanOf, group, average}
-use Rattle.agreement.proofs.Group.{between, no-mean, has-mean}
+use Rattle.agreement.specs.Agreement.{sumOf, meanOf, between, messageValues, average}
+use Rattle.agreement.proofs.MessageValues.{no-mean, has-mean}
 use Rattle.agreement.proofs.Quotient.{sum-order, quotient-toward-zero, quotient-exact, quotient-order}
 
 -- ---- toward zero
@@ -63,9 +63,9 @@ mean-between lo hi l p t =
 
 -- ---- a group has an average, and nothing else has
 
-pub average-value : (l : List ℤ) (v : ℤ) → (average l ≡ Value v) ↔ ((group l ≡ true) × (v ≡ meanOf l))
-average-value l v = (go (group l) refl, λ h. let f = has-mean l (h .0) in cc)
+pub average-value : (l : List ℤ) (v : ℤ) → (average l ≡ Value v) ↔ ((messageValues l ≡ true) × (v ≡ meanOf l))
+average-value l v = (go (messageValues l) refl, λ h. let f = has-mean l (h .0) in cc)
   where
-    go : (t : Bool) → group l ≡ t → average l ≡ Value v → (group l ≡ true) × (v ≡ meanOf l)
+    go : (t : Bool) → messageValues l ≡ t → average l ≡ Value v → (messageValues l ≡ true) × (v ≡ meanOf l)
     go true g e = let f = has-mean l g in (g, cc)
     go false g e = let f = no-mean l g in let z : _≡_ {A = ℕ} 0 1 = cc in absurd (omega arith)

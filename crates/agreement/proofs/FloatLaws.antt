@@ -16,7 +16,7 @@ use Rattle.float.proofs.Itself.{over-one}
 use Rattle.agreement.specs.declared.Agreed.the-variants.{Value}
 use Rattle.agreement.specs.Agreement.{ahead, oneThat, vote}
 use Rattle.agreement.specs.Floats.{leftOf, sumFrom, finiteValue, floatMean, leftAgreed, floatsAgreed}
-use Rattle.agreement.specs.Claims.{Claims}
+use Rattle.agreement.specs.Claims.{FloatClaims}
 use Rattle.agreement.proofs.Running.{left-none, left-out, left-in}
 use Rattle.agreement.proofs.Passed.{pattern-back, agreed-finite}
 use Rattle.agreement.proofs.Vote.{vote-value}
@@ -48,9 +48,9 @@ one-alone (suc zero) h x X a = rw (pattern-back x X, over-one x X a, a) refl
 one-alone (suc (suc zero)) h x X a = rw (eqZ-same (pos x) (pos x) refl) refl
 one-alone (suc (suc (suc k))) h x X a = absurd (omega arith)
 
-pub claims : Claims
+pub float-claims : FloatClaims
 unfolding leftAgreed floatMean
-claims =
+float-claims =
     record {
       left-out = λ k l m v h e. of-eight k (l ++ v ∷ m) h ∙ ap (leftAgreed k) (left-append l m v e) ∙ sym (of-eight k (l ++ m) (fewer l m v h));
       finite = λ k l v e. not-true (aside (patternOf 32 v)) (agreed-finite k l v e);

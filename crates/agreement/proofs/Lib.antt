@@ -1,5 +1,5 @@
 pub mod Turns
-pub mod Group
+pub mod MessageValues
 pub mod Quotient
 pub mod Vote
 pub mod Counted
@@ -8,4 +8,5 @@ pub mod Order
 pub mod Running
 pub mod Passed
 pub mod FloatLaws
-pub mod FloatExamples
+pub mod FloatRows
+pub mod Claims

@@ -11,7 +11,7 @@ use lib.ListN.{length}
 use Rattle.whole.specs.Whole.{eqZ, allOf}
 use Rattle.agreement.specs.declared.Agreed.{Agreed}
 use Rattle.agreement.specs.declared.Agreed.the-variants.{Value, NoResult}
-use Rattle.agreement.specs.Agreement.{countOf, sumOf, meanOf, messageValue, group, average, vote}
+use Rattle.agreement.specs.Agreement.{countOf, sumOf, meanOf, messageValue, messageValues, average, vote}
 use Rattle.agreement.proofs.Quotient.{exchange}
 use Rattle.agreement.proofs.Vote.{Outcome, outcome, one-outcome}
 
@@ -60,5 +60,5 @@ perm-vote {l} {m} p = one-outcome m (vote l) (vote m) (moved (vote l) (outcome l
     moved NoResult h = λ v k. h v (λ u n. omega (arith, k u n, perm-count p u, perm-count p v))
 
 pub perm-average : {l m : List ℤ} → Perm l m → average l ≡ average m
-unfolding average group meanOf
+unfolding average messageValues meanOf
 perm-average {l} {m} p = rw (perm-length p, perm-sum p, perm-all p messageValue) refl

@@ -12,11 +12,6 @@ use Rattle.whole.specs.Whole.{eqZ, allOf}
 use Rattle.agreement.specs.declared.Agreed.{Agreed}
 use Rattle.agreement.specs.declared.Agreed.the-variants.{Value, NoResult}
 
--- the paper's number for each outcome: 0 OK, 20 RDA_FAILED
-abbrev pub statusOf : Agreed → ℕ
-statusOf (Value v) = 0
-statusOf NoResult = 20
-
 -- ---- agreement 0, pick any
 
 -- the counting instance with the lowest frame number
@@ -35,17 +30,21 @@ sumOf (v ∷ l) = v +ℤ sumOf l
 unfoldable pub meanOf : List ℤ → ℤ
 meanOf l = quotZ (sumOf l) (pos (length l))
 
+-- a number lies between two others, or is one of them
+abbrev pub between : ℤ → ℤ → ℤ → Bool
+between lo hi v = leZ lo v && leZ v hi
+
 -- a number that a message of at most 32 bits holds, signed or not
 unfoldable pub messageValue : ℤ → Bool
-messageValue v = leZ (negℤ (pos (2 ^ 31))) v && leZ v (pos (2 ^ 32 - 1))
+messageValue v = between (negℤ (pos (2 ^ 31))) (pos (2 ^ 32 - 1)) v
 
 -- one to eight instances, as a message has fields, each of them such a number
-unfoldable pub group : List ℤ → Bool
-group l = (leb 1 (length l) && leb (length l) 8) && allOf messageValue l
+unfoldable pub messageValues : List ℤ → Bool
+messageValues l = (leb 1 (length l) && leb (length l) 8) && allOf messageValue l
 
 -- anything else has no mean
 unfoldable pub average : List ℤ → Agreed
-average l = cond (group l) (Value (meanOf l)) NoResult
+average l = cond (messageValues l) (Value (meanOf l)) NoResult
 
 -- ---- agreement 2, vote
 
@@ -67,7 +66,7 @@ unfoldable pub oneThat : (ℤ → Bool) → List ℤ → Agreed
 oneThat p [] = NoResult
 oneThat p (v ∷ l) = cond (p v) (Value v) (oneThat p l)
 
--- the value that is ahead of every other; proofs/Vote.antt shows that there is at most one, and that this finds it
+-- the value that is ahead of every other: there is at most one, and this finds it (`one-ahead`, `vote-value`, specs/Claims)
 unfoldable pub vote : List ℤ → Agreed
 vote l = oneThat (ahead l) l
 

@@ -1,3 +1,4 @@
 pub mod Agreement
 pub mod Floats
 pub mod Claims
+pub mod FloatRows

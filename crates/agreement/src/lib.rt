@@ -5,7 +5,7 @@ ghost use Prim.Native.Nat.{_≤_, _^_};
 ghost use lib.IntN.{natAbs};
 ghost use lib.ListN.{length, take};
 ghost use Rattle.whole.specs.Whole.{allOf};
-ghost use Rattle.agreement.specs.Agreement.{messageValue, group, sumOf, average, pickAny, countOf, vote, agreed};
+ghost use Rattle.agreement.specs.Agreement.{messageValue, messageValues, sumOf, average, pickAny, countOf, vote, agreed};
 ghost use Rattle.agreement.specs.Floats.{leftOf, floatMean, floatsAgreed};
 use float::FloatMean;
 
@@ -38,9 +38,9 @@ fn all_values(instances: &[i64]) -> bool
     true
 }
 
-// The exact sum of a group's instances: eight of them need 36 bits.
+// The exact sum of one to eight instances: it needs 36 bits.
 fn sum_of(instances: &[i64]) -> i64
-    requires { ⌜ group (now instances) ≡ true ⌝ }
+    requires { ⌜ messageValues (now instances) ≡ true ⌝ }
     ensures { λ r. ⌜ (r ≡ sumOf (now (instances .entry))) × (natAbs r ≤ 2 ^ 35) ⌝ }
 {
     let mut s: i64 = 0;

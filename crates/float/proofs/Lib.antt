@@ -8,5 +8,5 @@ pub mod Nearest
 pub mod Signs
 pub mod Itself
 pub mod Ranks
-pub mod Examples
+pub mod Rows
 pub mod Claims

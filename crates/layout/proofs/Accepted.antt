@@ -14,7 +14,7 @@ use Rattle.ranges.specs.Ranges.{findingAt, AllRight}
 use Rattle.record.specs.declared.Field.{Field}
 use Rattle.ranges.proofs.Lowest.{range-right}
 use Rattle.record.proofs.Tests.{to-last, bounded, meanings}
-use Rattle.layout.specs.Verdict.{sizeFault, isFieldOf, fieldsOf, fails, noField, complete, failsAt, refusalAt, judged, verdict}
+use Rattle.layout.specs.Verdict.{sizeFault, isFieldOf, fieldsAmong, fails, noField, complete, failsAt, refusalAt, judged, verdict}
 use Rattle.layout.specs.WellLaid.{FrameRecord, MessageRecord, FieldRecord, Below, theField, itsMessage, itsFrame, WellLaid}
 use Rattle.layout.specs.declared.Counts.{Counts}
 use Rattle.layout.specs.declared.Refusal.{Refusal}
@@ -71,7 +71,7 @@ plain-passes s i low rise c =
 record NextField (s : List ℕ) (F M d : ℕ) : Type 0 where
   pub its-record : FieldRecord s F M (F + M + d) (itsMessage s F M (theField s F M d)) (itsFrame s F M (theField s F M d))
   pub above : (e : ℕ) → suc e ≡ d → Below (theField s F M e) (theField s F M d)
-  pub not-ninth : fieldsOf s (theField s F M d .message) (F + M + d) < 8
+  pub not-ninth : fieldsAmong s (theField s F M d .message) (F + M + d) < 8
   pub few : d < 128
   pub alike : (e : ℕ) → e < d → Alike (theField s F M e) (theField s F M d)
   pub apart : (e : ℕ) → e < d → BitsApart s F (theField s F M e) (theField s F M d)
@@ -153,12 +153,12 @@ module _ (s : List ℕ) (F M D : ℕ) (w : Kinds s F M D) where
   -- ---- all records pass
 
   -- the frames and the messages are no fields
-  pub none-before : (m : ℕ) → fieldsOf s m (F + M) ≡ 0
+  pub none-before : (m : ℕ) → fieldsAmong s m (F + M) ≡ 0
   unfolding isFieldOf isField
   none-before m = tally-none (isFieldOf s m) (F + M) (λ k l. simp meanings (λ f. absurd (omega (arith, no-field s F M D w k l))))
 
   -- none of its fields is a message's ninth, exactly if it has no more than eight
-  eight : (m : ℕ) → ((d : ℕ) → d < D → theField s F M d .message ≡ m → fieldsOf s m (F + M + d) < 8) ↔ (fieldsOf s m (F + M + D) ≤ 8)
+  eight : (m : ℕ) → ((d : ℕ) → d < D → theField s F M d .message ≡ m → fieldsAmong s m (F + M + d) < 8) ↔ (fieldsAmong s m (F + M + D) ≤ 8)
   unfolding isFieldOf isField
   eight m =
       Iff·trans (simp meanings (λ h d l q. h d l (q .1), λ h d l q. h d l (w .fields d l, q)))
@@ -172,7 +172,7 @@ module _ (s : List ℕ) (F M D : ℕ) (w : Kinds s F M D) where
       (λ k g. below-trans (theField s F M k) (theField s F M e) (theField s F M (suc e)) (rising next k e g (omega arith)) last) last d l
 
   well-laid :
-      length s ≡ (F + M + D) * 24 → ((i : ℕ) → i < F + M + D → failsAt s i ≡ false) → ((m : ℕ) → m < M → fieldsOf s m (F + M + D) ≡ 0 → ⊥)
+      length s ≡ (F + M + D) * 24 → ((i : ℕ) → i < F + M + D → failsAt s i ≡ false) → ((m : ℕ) → m < M → fieldsAmong s m (F + M + D) ≡ 0 → ⊥)
       → WellLaid s F M D
   well-laid size passes full =
       record {

@@ -40,7 +40,7 @@ use Rattle.ranges.proofs.Lowest.{wrong-if-right, Right, list-right}
 use Rattle.ranges.proofs.Walk.{byte-seven}
 use Rattle.record.proofs.Tests.{or-holds, meanings}
 use Rattle.layout.specs.Counts.{frameNumbered, messageNumbered}
-use Rattle.layout.specs.Verdict.{orderFault, refFault, isFieldOf, fieldsOf, unlike, groupFault, clashAt, placeFault}
+use Rattle.layout.specs.Verdict.{orderFault, refFault, isFieldOf, fieldsAmong, unlike, groupFault, clashAt, placeFault}
 use Rattle.layout.specs.WellLaid.{ZeroFrom, FrameRecord, Word, MessageRecord, UsesForMessage, UsesForStatus, Uses, Below}
 use Rattle.layout.specs.declared.Counts.{Counts}
 use Rattle.layout.proofs.Runs.{inside-clear, once-clear, clash-clear}
@@ -166,7 +166,7 @@ module _ (s : List ℕ) (i : ℕ) (c : Counts) where
 
     pub group-clear :
         (groupFault s i c ≡ false)
-        ↔ ((fieldsOf s (own .message) i < 8)
+        ↔ ((fieldsAmong s (own .message) i < 8)
         × (c .fields < 128)
         × ((k : ℕ) → k < i → byteAt s k 0 ≡ 3 → Alike (fieldAt s k) own)
         × (message .direction ≡ 1 → own .status ≡ 0 → message .filter ≡ 0))

@@ -1,6 +1,5 @@
 pub mod Accepted
 pub mod Claims
-pub mod Examples
 pub mod Faults
 pub mod Node
 pub mod Numbers

@@ -12,7 +12,7 @@ use native.Mathlib.Omega.{arith}
 use native.Mathlib.Decide.{decLt}
 use lib.Dec.{eqb}
 use borrow.Author.Tests.{le-leb}
-use Rattle.packing.specs.Places.{placeOf, frameBit, bitPlaces, places, inFrame, placesIn, Inside, Apart, Disjoint}
+use Rattle.packing.specs.Places.{placeOf, frameBit, bitPlaces, places, inFrame, placesIn, Outside, Disjoint}
 use Rattle.record.specs.Runs.{messageRun, statusRun}
 use Rattle.record.specs.declared.Frame.{Frame}
 use Rattle.record.specs.declared.Message.{Message}
@@ -23,11 +23,6 @@ use Rattle.layout.specs.WellLaid.{UsesForStatus, Uses, Below, theField, 
 use Rattle.layout.proofs.Runs.{On, on-status}
 
 -- ---- the places of a run
-
-place-inside : (big : Bool) (n x : ℕ) → x < n * 8 → placeOf big x < n * 8
-unfolding placeOf
-place-inside false n x l = omega arith
-place-inside true n x l = omega arith
 
 same-bit : (big : Bool) (x y : ℕ) → placeOf big x ≡ placeOf big y → x ≡ y
 unfolding placeOf
@@ -53,14 +48,11 @@ module _ (big : Bool) (a : Run) (Q : List ℕ → Type 0) (none : Q []) (more : 
   unfolding places
   run-places = some-places 0 (a .width) (omega arith)
 
-run-inside : (big : Bool) (n : ℕ) (a : Run) → ((b : ℕ) → On a b → b < n * 8) → Inside n (runPlaces big a)
-run-inside big n a h = run-places big a (Inside n) tt (λ x ps on rest. (place-inside big n x (h x on), rest))
-
 run-disjoint : (big : Bool) (a b : Run) → ((x : ℕ) → On a x → On b x → ⊥) → Disjoint (runPlaces big a) (runPlaces big b)
 run-disjoint big a b h = run-places big a (λ ps. Disjoint ps (runPlaces big b)) tt (λ x ps on rest. (apart x on, rest))
   where
-    apart : (x : ℕ) → On a x → Apart (placeOf big x) (runPlaces big b)
-    apart x on = run-places big b (Apart (placeOf big x)) tt (λ y ps on-b rest. (λ e. h x on (rw (same-bit big x y e) on-b), rest))
+    apart : (x : ℕ) → On a x → Outside (placeOf big x) (runPlaces big b)
+    apart x on = run-places big b (Outside (placeOf big x)) tt (λ y ps on-b rest. (λ e. h x on (rw (same-bit big x y e) on-b), rest))
 
 -- packing finds a run's places in a frame that holds it
 run-placed :
@@ -76,18 +68,18 @@ run-placed big n a some few h =
 -- ---- the places of fields
 
 -- of message g's field r, in a frame of big or little order
-abbrev pub messagePlaces : Bool → Message → Field → List ℕ
-messagePlaces big g r = runPlaces big (messageRun g r)
+abbrev pub recordPlaces : Bool → Message → Field → List ℕ
+recordPlaces big g r = runPlaces big (messageRun g r)
 
-abbrev pub statusPlaces : Bool → Field → List ℕ
-statusPlaces big r = runPlaces big (statusRun r)
+abbrev pub recordStatus : Bool → Field → List ℕ
+recordStatus big r = runPlaces big (statusRun r)
 
 -- two fields of one frame, r of message g and q of message e, have no place in common
 pub record Separate (big : Bool) (g : Message) (r : Field) (e : Message) (q : Field) : Type 0 where
-  pub message-message : Disjoint (messagePlaces big g r) (messagePlaces big e q)
-  pub message-status : Disjoint (messagePlaces big g r) (statusPlaces big q)
-  pub status-message : Disjoint (statusPlaces big r) (messagePlaces big e q)
-  pub status-status : Disjoint (statusPlaces big r) (statusPlaces big q)
+  pub message-message : Disjoint (recordPlaces big g r) (recordPlaces big e q)
+  pub message-status : Disjoint (recordPlaces big g r) (recordStatus big q)
+  pub status-message : Disjoint (recordStatus big r) (recordPlaces big e q)
+  pub status-status : Disjoint (recordStatus big r) (recordStatus big q)
 
 separate :
     (big : Bool) (g : Message) (r : Field) (e : Message) (q : Field) → r .status ≤ 1 → q .status ≤ 1
@@ -156,23 +148,17 @@ module _ (s : List ℕ) (F M : ℕ) where
       status-bits : (b : ℕ) → On (statusRun (field d)) b → b < frameOf d .length * 8
       status-bits b u = w .fields d l .inside b (inr (for-status b u))
 
-      pub message-inside : Inside (frameOf d .length) (messagePlaces (isBig d) (messageOf d) (field d))
-      message-inside = run-inside (isBig d) (frameOf d .length) (messageRun (messageOf d) (field d)) message-bits
-
-      pub status-inside : Inside (frameOf d .length) (statusPlaces (isBig d) (field d))
-      status-inside = run-inside (isBig d) (frameOf d .length) (statusRun (field d)) status-bits
-
       pub message-placed :
-          placesIn (frameOf d .length) (isBig d) (field d .start) (messageOf d .width) ≡ messagePlaces (isBig d) (messageOf d) (field d)
+          placesIn (frameOf d .length) (isBig d) (field d .start) (messageOf d .width) ≡ recordPlaces (isBig d) (messageOf d) (field d)
       message-placed =
           let g = w .messages (field d .message) (w .fields d l .message) in
           run-placed (isBig d) (frameOf d .length) (messageRun (messageOf d) (field d)) (g .width-from) (g .width-to) message-bits
 
       pub status-placed :
-          field d .status ≡ 1 → placesIn (frameOf d .length) (isBig d) (field d .place) (field d .status) ≡ statusPlaces (isBig d) (field d)
+          field d .status ≡ 1 → placesIn (frameOf d .length) (isBig d) (field d .place) (field d .status) ≡ recordStatus (isBig d) (field d)
       status-placed present = run-placed (isBig d) (frameOf d .length) (statusRun (field d)) (omega arith) (omega arith) status-bits
 
-      pub own-disjoint : Disjoint (messagePlaces (isBig d) (messageOf d) (field d)) (statusPlaces (isBig d) (field d))
+      pub own-disjoint : Disjoint (recordPlaces (isBig d) (messageOf d) (field d)) (recordStatus (isBig d) (field d))
       own-disjoint =
           run-disjoint (isBig d) (messageRun (messageOf d) (field d)) (statusRun (field d)) (λ b u v. w .fields d l .once b u (for-status b v))
 

@@ -4,3 +4,4 @@ pub mod Numbers
 pub mod Refusals
 pub mod Verdict
 pub mod WellLaid
+pub mod Paper

@@ -10,7 +10,7 @@ use lib.ListN.{length}
 use Rattle.ranges.specs.Ranges.{findingAt, LowestWrong, AllRight}
 use Rattle.ranges.specs.declared.Fault.{Fault}
 use Rattle.layout.specs.Counts.{countsBefore}
-use Rattle.layout.specs.Verdict.{sizeFault, orderFault, refFault, fieldsOf, groupFault, placeFault}
+use Rattle.layout.specs.Verdict.{sizeFault, orderFault, refFault, fieldsAmong, groupFault, placeFault}
 use Rattle.layout.specs.declared.Counts.{Counts}
 use Rattle.layout.specs.declared.Refusal.{Refusal}
 
@@ -46,8 +46,8 @@ AllPass s n = (i : ℕ) → i < n → Passes s i (countsBefore s i)
 -- message m has no field, and each message below it has one
 pub record Lacking (s : List ℕ) (m : ℕ) : Type 0 where
   pub message : m < totals s .messages
-  pub no-field : fieldsOf s m (records s) ≡ 0
-  pub lowest : (k : ℕ) → k < m → 1 ≤ fieldsOf s k (records s)
+  pub no-field : fieldsAmong s m (records s) ≡ 0
+  pub lowest : (k : ℕ) → k < m → 1 ≤ fieldsAmong s k (records s)
 
 -- refusal n at record r
 pub data Demanded (s : List ℕ) (n : Refusal) (r : ℕ) : Type 0 where

@@ -57,8 +57,8 @@ unfoldable pub isFieldOf : List ℕ → ℕ → ℕ → Bool
 isFieldOf s m k = isField s k && eqb (fieldAt s k .message) m
 
 -- how many of the first n records are fields of message m
-abbrev pub fieldsOf : List ℕ → ℕ → ℕ → ℕ
-fieldsOf s m n = tally (isFieldOf s m) n
+abbrev pub fieldsAmong : List ℕ → ℕ → ℕ → ℕ
+fieldsAmong s m n = tally (isFieldOf s m) n
 
 -- record k is a field of r's message, and one of the two has a status bit and the other not
 unfoldable pub unlike : List ℕ → Field → ℕ → Bool
@@ -74,7 +74,7 @@ unfoldable pub groupFault : List ℕ → ℕ → Counts → Bool
 groupFault s i c =
     isField s i
     && oneOf
-    (leb 8 (fieldsOf s (fieldAt s i .message) i)
+    (leb 8 (fieldsAmong s (fieldAt s i .message) i)
     ∷ leb 128 (c .fields)
     ∷ anyBelow (unlike s (fieldAt s i)) i
     ∷ mute (messageNumbered s c (fieldAt s i .message)) (fieldAt s i)
@@ -125,7 +125,7 @@ readAt s i c = cond (fails s i c) (Read.Refused (refusalOf s i c)) (Read.Record 
 
 -- message m has no field among the first n records
 unfoldable pub noField : List ℕ → ℕ → ℕ → Bool
-noField s n m = eqb (fieldsOf s m n) 0
+noField s n m = eqb (fieldsAmong s m n) 0
 
 -- n records that pass their tests: the lowest message without a field is refused, with its record
 unfoldable pub complete : List ℕ → ℕ → Counts → Verdict

@@ -15,7 +15,7 @@ use Rattle.ranges.specs.Ranges.{usesX1, usesX2, isMask}
 use Rattle.record.specs.declared.Frame.{Frame}
 use Rattle.record.specs.declared.Message.{Message}
 use Rattle.record.specs.declared.Field.{Field}
-use Rattle.layout.specs.Verdict.{fieldsOf}
+use Rattle.layout.specs.Verdict.{fieldsAmong}
 
 -- bytes a to 23 of record i are zero
 abbrev pub ZeroFrom : ℕ → List ℕ → ℕ → Type 0
@@ -112,5 +112,5 @@ pub record WellLaid (s : List ℕ) (F M D : ℕ) : Type 0 where
       → Uses (itsMessage s F M (theField s F M e)) (theField s F M e) b
       → ⊥
   -- a message has one to eight fields
-  pub some-field : (m : ℕ) → m < M → 1 ≤ fieldsOf s m (F + M + D)
-  pub eight-fields : (m : ℕ) → m < M → fieldsOf s m (F + M + D) ≤ 8
+  pub some-field : (m : ℕ) → m < M → 1 ≤ fieldsAmong s m (F + M + D)
+  pub eight-fields : (m : ℕ) → m < M → fieldsAmong s m (F + M + D) ≤ 8

@@ -8,6 +8,7 @@ use native.Mathlib.Omega.{arith}
 use native.Mathlib.Decide.{decLt}
 use borrow.Author.Tests.{lt-ltb, le-ltb}
 use Rattle.listing.specs.Text.{digits, decimal}
+use Rattle.listing.specs.Claims.{saidFrom, said}
 
 same-digits : (k j n : ℕ) → n < k → n < j → digits k n ≡ digits j n
 unfolding digits
@@ -39,29 +40,21 @@ three-digits n l b =
 
 -- ---- a text read as a number
 
--- the number that a text of digits says after digits that say n
-unfoldable pub valueFrom : ℕ → List ℕ → ℕ
-valueFrom n [] = n
-valueFrom n (d ∷ t) = valueFrom (n * 10 + (d - 48)) t
-
-abbrev pub value : List ℕ → ℕ
-value t = valueFrom 0 t
-
-value-append : (n : ℕ) (t : List ℕ) (d : ℕ) → valueFrom n (t ++ (d ∷ [])) ≡ valueFrom n t * 10 + (d - 48)
-unfolding valueFrom
-value-append n [] d = refl
-value-append n (x ∷ t) d = value-append (n * 10 + (x - 48)) t d
+said-append : (n : ℕ) (t : List ℕ) (d : ℕ) → saidFrom n (t ++ (d ∷ [])) ≡ saidFrom n t * 10 + (d - 48)
+unfolding saidFrom
+said-append n [] d = refl
+said-append n (x ∷ t) d = said-append (n * 10 + (x - 48)) t d
 
 -- by recursion over a number k above n
-reads-below : (k n : ℕ) → n < k → value (decimal n) ≡ n
-unfolding valueFrom
+reads-below : (k n : ℕ) → n < k → said (decimal n) ≡ n
+unfolding saidFrom
 reads-below zero n l = absurd (omega arith)
 reads-below (suc k) n l = go (decLt n 10) (reads-below k (n / 10))
   where
-    go : Dec (n < 10) → (n / 10 < k → value (decimal (n / 10)) ≡ n / 10) → value (decimal n) ≡ n
+    go : Dec (n < 10) → (n / 10 < k → said (decimal (n / 10)) ≡ n / 10) → said (decimal n) ≡ n
     go (yes b) tenth = rw (one-digit n b) (omega arith)
     go (no b) tenth =
-        rw (last-digit n (omega arith), value-append 0 (decimal (n / 10)) (n % 10 + 48), tenth (omega arith)) (omega arith)
+        rw (last-digit n (omega arith), said-append 0 (decimal (n / 10)) (n % 10 + 48), tenth (omega arith)) (omega arith)
 
-pub decimal-reads : (n : ℕ) → value (decimal n) ≡ n
+pub decimal-reads : (n : ℕ) → said (decimal n) ≡ n
 decimal-reads n = reads-below (suc n) n (omega arith)

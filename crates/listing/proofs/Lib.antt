@@ -1,3 +1,3 @@
 pub mod Decimal
-pub mod Example
+pub mod Claims
 pub mod Puts

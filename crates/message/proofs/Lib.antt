@@ -1,3 +1,5 @@
 pub mod Held
-pub mod FloatExamples
+pub mod FloatRows
 pub mod Passed
+pub mod FilterWords
+pub mod Claims

@@ -1,2 +1,4 @@
 pub mod Messages
 pub mod Fields
+pub mod Claims
+pub mod FloatRows

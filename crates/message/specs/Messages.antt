@@ -2,6 +2,7 @@
 -- Assumes nothing.
 use mathlib.Core.Bool.{Bool, not, cond, _&&_}
 use mathlib.Core.List.{List, [], _∷_}
+use Prim.Native.Nat.{ℕ}
 use lib.IntN.{ℤ}
 use Rattle.packing.specs.Values.{inRange, patternOf}
 use Rattle.float.specs.Patterns.{aside}
@@ -37,20 +38,41 @@ invalidated s = withValid 0 s
 
 -- ---- closing
 
+-- how a round ends for a received message
+pub data Ending : Type 0 where
+  -- no frame of it was delivered
+  notReceived : Ending
+  -- some were, but no instance counts
+  invalid : Ending
+  -- its agreement has no result
+  failed : Ending
+  -- what was agreed on does not pass its filter
+  stopped : Ending
+  -- what was agreed on is held
+  held : Ending
+
+-- the paper's number for each: 0 OK, 20 RDA_FAILED, 21 NOT_RECEIVED, 22 INVALIDATED
+abbrev pub statusOf : Ending → ℕ
+statusOf notReceived = 21
+statusOf invalid = 22
+statusOf failed = 20
+statusOf stopped = 21
+statusOf held = 0
+
 -- what the counting instances agree on, by the message's agreement: whole numbers, or floats
 unfoldable pub agreedBy : Message → List ℤ → Agreed
 agreedBy g l = cond (isFloat g) (floatsAgreed (g .agreement) l) (agreed (g .agreement) l)
 
--- an agreed value is put to the filter: 0, or 21
+-- an agreed value is put to the filter
 unfoldable pub filtered : Message → MessageState → ℤ → MessageState
-filtered g s v = withStatus (cond (passesNow g s v) 0 21) (put g s v)
+filtered g s v = withStatus (cond (passesNow g s v) (statusOf held) (statusOf stopped)) (put g s v)
 
--- agreement without result is 20
+-- if there is one
 abbrev pub agreedOn : Message → MessageState → Agreed → MessageState
-agreedOn g s NoResult = withStatus 20 s
+agreedOn g s NoResult = withStatus (statusOf failed) s
 agreedOn g s (Value v) = filtered g s v
 
--- no frame of it delivered, 21; some delivered but no instance counts, 22; else what the instances agree on
+-- the state after a round in which none of its frames came, or some did, and those instances count
 abbrev pub settled : Message → MessageState → Bool → List ℤ → MessageState
-settled g s none [] = withStatus (cond none 21 22) s
+settled g s none [] = withStatus (cond none (statusOf notReceived) (statusOf invalid)) s
 settled g s none (v ∷ l) = agreedOn g s (agreedBy g (v ∷ l))

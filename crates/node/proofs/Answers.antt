@@ -48,6 +48,10 @@ module _ (l : Layout) where
   unfolding invalidateAnswer
   invalidate-tests m e = omega (arith, known m (l .message-number) _ _ e)
 
+  pub invalidate-access : (m : ℕ) → invalidateAnswer l m ≡ 0 → isSent (messageAt l m) ≡ true
+  unfolding invalidateAnswer
+  invalidate-access m e = not-false _ (passed (not (isSent (messageAt l m))) _ _ (known m (l .message-number) _ _ e .1) .0)
+
   pub invalidate-status : (m : ℕ) → invalidateAnswer l m ≡ 0 → hasStatusBit (messageAt l m) ≡ true
   unfolding invalidateAnswer
   invalidate-status m e =
@@ -62,6 +66,10 @@ module _ (l : Layout) where
       let value = passed (not (eqb size (frameAt l f .length))) _ _ (access .1) in
       (number .0, eqb-true size (frameAt l f .length) (not-false _ (value .0)))
 
+  pub deliver-access : (f size : ℕ) → deliverAnswer l f size ≡ 0 → isSentFrame (frameAt l f) ≡ false
+  unfolding deliverAnswer
+  deliver-access f size e = passed (isSentFrame (frameAt l f)) _ _ (known f (l .frame-number) _ _ e .1) .0
+
 module _ (n : Node) where
   pub assemble-tests : (f size : ℕ) → assembleAnswer n f size ≡ 0 → size ≡ frameAt (n .layout) f .length
   unfolding assembleAnswer
@@ -70,10 +78,6 @@ module _ (n : Node) where
       let access = passed (not (isSentFrame (frameAt (n .layout) f))) _ _ (number .1) in
       let value = passed (not (eqb size (frameAt (n .layout) f .length))) _ _ (access .1) in
       eqb-true size (frameAt (n .layout) f .length) (not-false _ (value .0))
-
-  pub assemble-access : (f size : ℕ) → assembleAnswer n f size ≡ 0 → isSentFrame (frameAt (n .layout) f) ≡ true
-  unfolding assembleAnswer
-  assemble-access f size e = not-false _ (passed (not (isSentFrame (frameAt (n .layout) f))) _ _ (known f (n .layout .frame-number) _ _ e .1) .0)
 
   pub receive-tests : (m : ℕ) → receiveAnswer n m ≡ 0 → m < messageCount (n .layout)
   unfolding receiveAnswer

@@ -9,7 +9,7 @@ use lib.Dec.{ltb}
 use lib.ListN.{length, List·getD-eq-default}
 use borrow.Author.Tests.{lt-ltb, le-ltb}
 use Rattle.store.specs.Node.{Node, frameCount, messageCount, noDelivery, noState, deliveryAt, stateAt}
-use Rattle.node.specs.Closing.{closedState, isReceived, closeMessages, forget, closeOf}
+use Rattle.closing.specs.Closing.{closedState, isReceived, closeMessages, forget, closeOf}
 use Rattle.node.specs.Sound.{Sound}
 use Rattle.own.proofs.Lists.{changed-length, changed-at}
 

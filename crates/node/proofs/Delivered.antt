@@ -17,7 +17,7 @@ data-length {n} s f l =
     let y = s .state .deliveries f l in
     length-take (frameAt (n .layout) f .length) (deliveryAt (n .state) f .bytes) ∙ omega arith
 
-pub kept-data : (h : Frame) (y : Delivery) (d : List ℕ) → SoundDelivery y → h .length ≤ 32 → length d ≡ h .length
+pub kept-data : (h : Frame) (y : Delivery) (d : List ℕ) → SoundDelivery h y → h .length ≤ 32 → length d ≡ h .length
     → take (h .length) (kept y d .bytes) ≡ d
 unfolding kept
 kept-data h y d s few size = let room : length d ≤ 32 = omega arith in rw (take-all 32 d room, take-length) (take-at d _ (h .length) size)

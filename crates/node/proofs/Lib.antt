@@ -1,12 +1,10 @@
 pub mod Answers
 pub mod Outcomes
-pub mod Loops
 pub mod Turns
-pub mod Instances
-pub mod Rounds
 pub mod Delivered
 pub mod Closed
 pub mod Meaning
 pub mod Kept
 pub mod Starts
 pub mod StartMeans
+pub mod Claims

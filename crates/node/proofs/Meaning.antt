@@ -11,7 +11,7 @@ use native.Mathlib.Omega.{arith}
 use lib.Dec.{eqb}
 use lib.ListN.{length}
 use borrow.Author.Tests.{lt-ltb, eqb-true}
-use Rattle.packing.specs.Places.{bitAt, inFrame, placesIn, packed, unpacked, Apart as NoneOf, Disjoint}
+use Rattle.packing.specs.Places.{bitAt, inFrame, placesIn, packed, unpacked, Outside, Disjoint}
 use Rattle.packing.specs.Values.{valueOf}
 use Rattle.packing.proofs.Frame.{packed-length, unpacked-other, round-trip, agree}
 use Rattle.packing.proofs.Places.{placesIn-places, placesIn-inside, placesIn-distinct, places-length, in-frame-bounds}
@@ -27,6 +27,7 @@ use Rattle.own.specs.Own.{isIn, cellsOf, fieldsOf}
 use Rattle.node.specs.Calls.{assembleAnswer, written, assembled, receiveAnswer}
 use Rattle.own.specs.SoundLayout.{messagePlaces, itsStatusPlaces, SoundField, Apart}
 use Rattle.node.specs.Sound.{IsStatus, SoundMessageState, Sound}
+use Rattle.node.specs.Claims.{InFrame, itsMessage, itsState}
 use Rattle.own.proofs.Lists.{by-test, Every, every-number, in-cases}
 use Rattle.own.proofs.Owners.{cell-names, fields-named}
 use Rattle.node.proofs.Answers.{assemble-tests}
@@ -35,14 +36,9 @@ use Rattle.node.proofs.Answers.{assemble-tests}
 
 -- what a field writes, by the places that it has in its frame
 module _ (n : Node) (x : FieldRecord) where
-  abbrev itsMessage : Message
-  itsMessage = messageAt (n .layout) (x .message)
-
-  abbrev itsState : MessageState
-  itsState = stateAt (n .state) (x .message)
-
   abbrev put : List ℕ → List ℕ
-  put b = packed (itsStatusPlaces (n .layout) x) (cond (isValid itsState) 1 0) (packed (messagePlaces (n .layout) x) (itsState .held) b)
+  put b =
+      packed (itsStatusPlaces (n .layout) x) (cond (isValid (itsState n x)) 1 0) (packed (messagePlaces (n .layout) x) (itsState n x .held) b)
 
 -- what is written at the places of w bits that lie in the frame is read there
 written-there : (bytes : ℕ) (big : Bool) (start w v : ℕ) (c : List ℕ) → length c ≡ bytes → inFrame bytes start w ≡ true
@@ -82,12 +78,9 @@ held-value g t s w =
     let low = pattern-lowest 32 (g .width) v w in
     rw (rw (pattern-value (isSigned g) 32 (t .held) (s .held-word)) at low) (value-pattern (isSigned g) (g .width) v (held-in-range g v (s .held)))
 
--- the cells of frame f's fields, and that d is one of them
+-- the cells of frame f's fields
 abbrev frameCells : Node → ℕ → List ℕ
 frameCells n f = cellsOf (n .layout) (Owner.Frame f)
-
-abbrev InFrame : Node → ℕ → ℕ → Type 0
-InFrame n f d = isIn d (frameCells n f) ≡ true
 
 -- a field uses none of the places
 abbrev Unused : Node → List ℕ → FieldRecord → Type 0
@@ -151,7 +144,7 @@ module _ (n : Node) (f : ℕ) where
   -- a bit that no field of the frame uses stays
   pub other-bit : (b : List ℕ) (q : ℕ)
       → ((d : ℕ) → InFrame n f d
-      → NoneOf q (messagePlaces (n .layout) (laidAt (n .layout) d)) × NoneOf q (itsStatusPlaces (n .layout) (laidAt (n .layout) d)))
+      → Outside q (messagePlaces (n .layout) (laidAt (n .layout) d)) × Outside q (itsStatusPlaces (n .layout) (laidAt (n .layout) d)))
       → bitAt (assembled n f b) q ≡ bitAt b q
   unfolding assembled
   other-bit b q h =
@@ -164,7 +157,7 @@ module _ (n : Node) (f : ℕ) where
 
 -- ---- two fields of a frame are apart, in either order
 
-first-off : (ps : List ℕ) (q : ℕ) (qs : List ℕ) → Disjoint ps (q ∷ qs) → NoneOf q ps × Disjoint ps qs
+first-off : (ps : List ℕ) (q : ℕ) (qs : List ℕ) → Disjoint ps (q ∷ qs) → Outside q ps × Disjoint ps qs
 first-off [] q qs h = (tt, tt)
 first-off (p ∷ ps) q qs h = let (none, rest) = first-off ps q qs (h .1) in ((λ e. h .0 .0 (sym e), none), (h .0 .1, rest))
 

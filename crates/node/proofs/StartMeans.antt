@@ -18,21 +18,10 @@ use Rattle.own.specs.declared.Owner.{Owner}
 use Rattle.own.specs.Own.{cellsOf}
 use Rattle.node.specs.Calls.{flagAnswer, goneAt, flagOf, flagPlace, receiveAnswer}
 use Rattle.node.specs.Load.{loadOf}
+use Rattle.node.specs.Claims.{AtStart}
 use Rattle.own.proofs.Starts.{message-at}
 use Rattle.node.proofs.Starts.{state-at, load-makes}
 use Rattle.own.proofs.Tables.{alike-at, all-pass}
-
--- node n is at start with the layout file s; a flag is read into the caller's place, whatever p it held
-pub record AtStart (s : List ℕ) (n : Node) : Type 0 where
-  pub held : (m : ℕ) → m < messageCount (n .layout)
-      → heldValue (messageAt (n .layout) m) (stateAt (n .state) m) ≡ initialValue s (n .layout .frame-number + m)
-  pub old : (m : ℕ) → m < messageCount (n .layout)
-      → oldValue (messageAt (n .layout) m) (stateAt (n .state) m) ≡ initialValue s (n .layout .frame-number + m)
-  pub received : (m : ℕ) → m < messageCount (n .layout) → isSent (messageAt (n .layout) m) ≡ false → receiveAnswer n m ≡ 21
-  pub sent : (m : ℕ) → m < messageCount (n .layout) → isSent (messageAt (n .layout) m) ≡ true
-      → isValid (stateAt (n .state) m) ≡ not (hasStatusBit (messageAt (n .layout) m))
-  pub gone : allOf isGone (n .state .stages) ≡ true
-  pub flag : (m p : ℕ) → m < messageCount (n .layout) → isSent (messageAt (n .layout) m) ≡ true → flagPlace n m p ≡ 1
 
 -- a message whose status bit is k, 0 where it has none
 valid-without : (k : ℕ) → not (eqb (cond (eqb k 0) 1 0) 0) ≡ not (not (eqb k 0))

@@ -6,10 +6,10 @@ use mathlib.Core.Path.{_≡_, refl}
 use mathlib.Core.Bool.{Bool, true}
 use mathlib.Core.List.{List}
 use mathlib.Core.Logic.{inl, inr}
-use Prim.Native.Nat.{ℕ, _+_, _^_, _<_}
+use Prim.Native.Nat.{ℕ, _+_, _^_, _<_, _≤_}
 use native.Mathlib.Omega.{arith}
 use lib.Dec.{eqb}
-use borrow.Author.Tests.{lt-ltb, eqb-true}
+use borrow.Author.Tests.{lt-ltb, le-ltb, eqb-true, not-true, not-false}
 use Rattle.packing.specs.Values.{inRange, valueOf, extended}
 use Rattle.packing.proofs.Values.{pattern-below, extended-pattern, extended-value}
 use Rattle.layout.specs.Verdict.{verdict}
@@ -33,7 +33,7 @@ use Rattle.start.specs.Start.{
 use Rattle.start.proofs.Tables.{length-table, table-at}
 use Rattle.message.proofs.Held.{word-held}
 use Rattle.own.proofs.Starts.{message-at, sound-layout}
-use Rattle.own.proofs.Tables.{alike-at}
+use Rattle.own.proofs.Tables.{table-past, alike-at}
 use Rattle.node.specs.Load.{loaded, loadOf}
 use Rattle.node.specs.Sound.{SoundMessageState, SoundState, Sound}
 use Rattle.node.proofs.Kept.{at-most-one, none-delivered}
@@ -59,6 +59,11 @@ module _ (s : List ℕ) (F M D : ℕ) (w : WellLaid s F M D) where
       let inside : m < 32 = omega (arith, few-messages s F M D w) in
       rw (table-at (λ m. stateOrNone s F M (startMessageOrNone s F M D m .statusbit) m) noState 32 m inside, lt-ltb m M l)
 
+  no-state : (m : ℕ) → M ≤ m → stateAt state m ≡ noState
+  unfolding startState startStates stateOrNone
+  no-state m past =
+      table-past (λ m. stateOrNone s F M (startMessageOrNone s F M D m .statusbit) m) noState 32 m (rw (le-ltb m M past) refl)
+
   initial-sound : (m : ℕ) → m < M → SoundMessageState (startMessage s F (F + M) D m) (initialState s F (statusBit m) m)
   unfolding startMessage
   initial-sound m l =
@@ -67,6 +72,9 @@ module _ (s : List ℕ) (F M D : ℕ) (w : WellLaid s F M D) where
       let held = word-held (startMessage s F (F + M) D m) _ (extended-held _ _ _ (r .fits)) (λ float. r .finite (eqb-true _ _ float)) in
       record {
         valid = at-most-one (eqb (statusBit m) 0);
+        always-valid = λ none. rw (not-false (eqb (statusBit m) 0) none) refl;
+        received-valid = λ received bit. rw (not-true (eqb (statusBit m) 0) bit) refl;
+        sent-status = λ sent. refl;
         status = inr (inr (inl refl));
         held-word = word;
         old-word = word;
@@ -81,9 +89,12 @@ module _ (s : List ℕ) (F M D : ℕ) (w : WellLaid s F M D) where
         delivery-cells = refl;
         message-cells = length-table _ 0 32;
         stage-cells = refl;
-        deliveries = λ f l. rw (alike-at noDelivery 32 f) none-delivered;
+        deliveries = λ f l. rw (alike-at noDelivery 32 f) (none-delivered _);
+        no-deliveries = λ f past. alike-at noDelivery 32 f;
         messages = λ m l. rw (message-at s F M D w m l, state-at m l) (initial-sound m l);
-        stages = λ d l. rw (alike-at noStage 128 d) (inr (inr refl));
+        no-states = no-state;
+        stages = λ d l. rw (alike-at noStage 128 d) (record { stage = inr (inr refl); always-gone = λ received. refl });
+        no-stages = λ d past. alike-at noStage 128 d;
       }
 
   sound-start : Sound (startOf s F M D)

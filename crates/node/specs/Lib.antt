@@ -1,4 +1,4 @@
 pub mod Calls
-pub mod Closing
 pub mod Load
 pub mod Sound
+pub mod Claims

@@ -1,203 +1,150 @@
--- Each round by itself. Two nodes of the same round differ in their deliveries alone, and there only in bytes that no delivery of this round put. No
--- call but deliver and close looks at a delivery. A delivery that is kept puts all of its frame's data. A closing finds each message's own bits the
--- same, by own bits alone, and leaves no frame delivered.
+-- Each round by itself. A sound node's delivery has data up to its frame's length if it came in this round, and nothing else; what a message or a field
+-- has for the other direction is as at start, and past the layout's numbers there is nothing. So two sound nodes of one layout with the same messages,
+-- stages and deliveries of this round have the same cells. A closing leaves no delivery, and then the messages and stages are enough.
 -- Assumes nothing.
-use mathlib.Core.Path.{_≡_, refl, sym, ap₂, subst, _∙_}
-use mathlib.Core.Bool.{true}
-use mathlib.Core.List.{List, [], _∷_}
-use Prim.Native.Nat.{ℕ, _<_}
-use native.Mathlib.Decide.{ℕ-discrete}
+use mathlib.Core.Path.{_≡_, refl, sym, _∙_}
+use mathlib.Core.Bool.{Bool, true, false, not, true≢false, false≢true}
+use mathlib.Core.List.{List}
+use Prim.Native.Nat.{ℕ, zero, suc, _<_, _≤_}
+use native.Mathlib.Decide.{decLt}
 use native.Mathlib.Omega.{arith}
 use lib.Dec.{eqb}
-use lib.ListN.{length, getD, set, take}
-use lib.Seq.{getD-set-same, getD-set-other, ext-getD}
-use borrow.Author.Tests.{eqb-true}
-use Rattle.packing.proofs.Frame.{agree}
-use Rattle.record.specs.declared.Field.{Field as FieldRecord}
-use Rattle.store.specs.declared.Stage.{Stage}
+use lib.ListN.{length, getD, take}
+use lib.Seq.{getD-take, ext-getD}
 use Rattle.store.specs.declared.Frame.{Frame}
+use Rattle.store.specs.declared.Message.{Message}
 use Rattle.store.specs.declared.MessageState.{MessageState}
-use Rattle.store.specs.Node.{Delivery, State, Node, isDelivered, noDelivery, noState}
-use Rattle.store.specs.Node.{frameAt, messageAt, laidAt, deliveryAt, stateAt, withDeliveries, withDelivery, nodeWith}
-use Rattle.message.specs.Fields.{writes}
-use Rattle.node.specs.Calls.{outcome, sendAnswer, sendOf, invalidateAnswer, invalidateOf, suppressed, assembleAnswer, written, assembleOf, assembled}
-use Rattle.node.specs.Calls.{consumedAnswer, consumedOf, flagOf, flagPlace, deliverAnswer, kept, deliverOf, receiveAnswer, receivedPlace}
-use Rattle.node.specs.Closing.{came, closeMessages, forget, closeOf}
-use Rattle.own.specs.SoundLayout.{messagePlaces, itsStatusPlaces}
-use Rattle.node.specs.Sound.{Sound}
-use Rattle.node.proofs.Answers.{deliver-tests}
+use Rattle.store.specs.Node.{Layout, Delivery, State, Node, isSent, hasStatusBit, isSentFrame, isDelivered, isValid}
+use Rattle.store.specs.Node.{noFrame, noMessage, notLaid, noDelivery, noState, noStage}
+use Rattle.store.specs.Node.{frameAt, messageAt, laidAt, deliveryAt, stageAt, nodeWith}
+use Rattle.own.specs.SoundLayout.{SoundLayout}
+use Rattle.node.specs.Sound.{SoundDelivery, SoundMessageState, Sound}
 use Rattle.node.proofs.Closed.{delivery-closed}
-use Rattle.node.proofs.Delivered.{kept-data}
-use Rattle.own.proofs.Lists.{same-test}
-use Rattle.order.specs.Runs.{Call, send, invalidate, assemble, consumed, readFlag, deliver, close, receive, seenOf, next, final}
-use Rattle.order.specs.Own.{SameOwn, SameRound, seens}
+use Rattle.calls.specs.Contracts.{close, next}
+use Rattle.order.specs.Own.{SameLayout, SameMessageState, SameMessages, SameDelivery, SameRound}
 use Rattle.order.proofs.Kept.{kept-sound}
-use Rattle.order.proofs.OwnBits.{in-layout, state-alike, one-layout}
+use Rattle.order.proofs.OwnBits.{one-layout}
 
--- the node with other deliveries
-abbrev delivering : Node → List Delivery → Node
-delivering n y = nodeWith n (withDeliveries (n .state) y)
-
--- ---- what callers see
-
-module _ (n : Node) (y : List Delivery) where
-  written-alike : (h : Frame) (k : List FieldRecord) (b : List ℕ) → written n h k b ≡ written (delivering n y) h k b
-  unfolding written
-  written-alike h [] b = refl
-  written-alike h (x ∷ k) b = written-alike h k (writes h (messageAt (n .layout) (x .message)) (stateAt (n .state) (x .message)) x b)
-
-  seen-alike : (c : Call) → seenOf n c ≡ seenOf (delivering n y) c
-  unfolding sendOf invalidateOf assembleOf assembleAnswer suppressed assembled consumedOf flagOf flagPlace deliverOf receiveAnswer receivedPlace
-  seen-alike (send m v) = refl
-  seen-alike (invalidate m) = refl
-  seen-alike (assemble f b) = rw written-alike
-  seen-alike (consumed f) = refl
-  seen-alike (readFlag m p) = refl
-  seen-alike (deliver f valid d) = refl
-  seen-alike close = refl
-  seen-alike (receive m p) = refl
-
--- ---- two states of one layout
-
-module _ (n : Node) where
-  -- two deliveries of frame f differ at most in the bytes that stand there where this round delivered none
-  abbrev Alike : ℕ → Delivery → Delivery → Type 0
-  Alike f a b =
-      (a .delivered ≡ b .delivered)
-      × (isDelivered a ≡ true → take (frameAt (n .layout) f .length) (a .bytes) ≡ take (frameAt (n .layout) f .length) (b .bytes))
-
-  one-round : (k k′ : State) → k .messages ≡ k′ .messages → k .stages ≡ k′ .stages
-      → ((f : ℕ) → f < n .layout .frame-number → Alike f (deliveryAt k f) (deliveryAt k′ f)) → SameRound (nodeWith n k) (nodeWith n k′)
-  one-round k k′ messages stages alike =
-      record {
-        layout = refl;
-        messages = messages;
-        stages = stages;
-        deliveries = λ f l. let (delivered, bytes) = alike f l in record { delivered = delivered; bytes = bytes };
-      }
-
--- after a closing no frame is delivered any more
-closed-round : {n : Node} {k : State} → Sound n → Sound (nodeWith n k) → closeOf n .messages ≡ closeOf (nodeWith n k) .messages
-    → closeOf n .stages ≡ closeOf (nodeWith n k) .stages → SameRound (next n close) (next (nodeWith n k) close)
-closed-round {n} {k} s s′ messages stages =
-    one-round n (closeOf n) (closeOf (nodeWith n k)) messages stages
-    (λ f l. rw (delivery-closed s f l, delivery-closed s′ f l) (refl, λ t. refl))
-
--- ---- two nodes of the same round
-
-module _ {n : Node} {y : List Delivery} (s : Sound n) (s′ : Sound (delivering n y)) (same : SameRound n (delivering n y)) where
-  abbrev n′ : Node
-  n′ = delivering n y
-
-  alike : (f : ℕ) → f < n .layout .frame-number → Alike n f (deliveryAt (n .state) f) (deliveryAt (n′ .state) f)
-  alike f l = (same .deliveries f l .delivered, same .deliveries f l .bytes)
-
-  -- a call that leaves the deliveries
-  untouched : (messages : List MessageState) (stages : List Stage)
-      → SameRound (nodeWith n (record { deliveries = n .state .deliveries; messages = messages; stages = stages }))
-      (nodeWith n (record { deliveries = y; messages = messages; stages = stages }))
-  untouched messages stages = one-round n _ _ refl refl alike
-
-  -- a delivery that is kept
-  kept-same : (f : ℕ) (d : List ℕ) → deliverAnswer (n .layout) f (length d) ≡ 0
-      → SameRound (nodeWith n (withDelivery (n .state) f (kept (deliveryAt (n .state) f) d)))
-      (nodeWith n (withDelivery (n′ .state) f (kept (deliveryAt (n′ .state) f) d)))
-  kept-same f d e = one-round n _ _ refl refl (λ i l. go i l (ℕ-discrete i f))
-    where
-      a : Delivery
-      a = kept (deliveryAt (n .state) f) d
-
-      b : Delivery
-      b = kept (deliveryAt (n′ .state) f) d
-
-      marks : a .delivered ≡ b .delivered
-      marks = unfold kept in refl
-
-      go : (i : ℕ) → i < n .layout .frame-number → Dec (i ≡ f)
-          → Alike n i (getD (set (n .state .deliveries) f a) i noDelivery) (getD (set y f b) i noDelivery)
-      go i l (no other) = rw (getD-set-other (n .state .deliveries) f i a noDelivery other, getD-set-other y f i b noDelivery other) (alike i l)
-      go i l (yes here) =
-          let known : f < n .layout .frame-number = rw here at l in
-          let room : f < length (n .state .deliveries) = omega (arith, s .layout, s .state) in
-          let room′ : f < length y = omega (arith, s .layout, s′ .state) in
-          let short = s .layout .frames f known .length-to in
-          let size = deliver-tests (n .layout) f (length d) e .1 in
-          rw (here, getD-set-same (n .state .deliveries) f a noDelivery, getD-set-same y f b noDelivery) (
-            marks,
-            λ t. kept-data (frameAt (n .layout) f) (deliveryAt (n .state) f) d (s .state .deliveries f known) short size
-                ∙ sym (kept-data (frameAt (n .layout) f) (deliveryAt (n′ .state) f) d (s′ .state .deliveries f known) short size),
-          )
-
-  -- a refused call leaves the node
-  by-answer : (a : ℕ) (k k′ : State) → (a ≡ 0 → SameRound (nodeWith n k) (nodeWith n k′)) → SameRound (outcome a k n .node) (outcome a k′ n′ .node)
-  by-answer a k k′ h =
-      same-test (λ (i i′ : State). SameRound (nodeWith n i) (nodeWith n i′)) (eqb a 0) (λ t. h (eqb-true a 0 t)) (λ t. same)
-
-  -- a closing finds all that it may look at the same
-  own-same : (m : ℕ) → SameOwn n n′ m
-  unfolding came
-  own-same m =
-      record {
-        layout = refl;
-        values = record { held = refl; old = refl };
-        fields = λ d mine. let x = laidAt (n .layout) d in
-            let (delivered, bytes) = alike (x .frame) (in-layout (s .layout) m d mine) in
-            record {
-              frame = rw delivered;
-              bits = λ t. agree (messagePlaces (n .layout) x) _ _ .1 (rw (bytes t));
-              status = λ t. agree (itsStatusPlaces (n .layout) x) _ _ .1 (rw (bytes t));
-            };
-      }
-
-  closed-messages : closeOf n .messages ≡ closeOf n′ .messages
-  closed-messages =
-      ext-getD noState _ _ (kept-sound s close .state .message-cells ∙ sym (kept-sound s′ close .state .message-cells))
-      (λ m l. state-alike s s′ m (own-same m) refl)
-
-  closed-stages : closeOf n .stages ≡ closeOf n′ .stages
-  unfolding closeOf forget closeMessages
-  closed-stages = refl
-
-  next-same : (c : Call) → SameRound (next n c) (next n′ c)
-  unfolding sendOf invalidateOf assembleOf assembleAnswer suppressed consumedOf deliverOf
-  next-same (send m v) = by-answer (sendAnswer (n .layout) m v) _ _ (λ e. untouched _ _)
-  next-same (invalidate m) = by-answer (invalidateAnswer (n .layout) m) _ _ (λ e. untouched _ _)
-  next-same (assemble f b) = by-answer (assembleAnswer n f (length b)) _ _ (λ e. untouched _ _)
-  next-same (consumed f) = by-answer (consumedAnswer (n .layout) f) _ _ (λ e. untouched _ _)
-  next-same (readFlag m p) = same
-  next-same (deliver f valid d) =
-      by-answer (deliverAnswer (n .layout) f (length d)) _ _
-      (λ e. same-test (λ (i i′ : State). SameRound (nodeWith n i) (nodeWith n i′)) valid (λ t. kept-same f d e) (λ t. same))
-  next-same close = closed-round s s′ closed-messages closed-stages
-  next-same (receive m p) = same
-
--- ---- rounds
-
--- two sound nodes of the same round show every caller the same, and stay of the same round: no call looks at what stands in frames that did not
--- come. So a closing depends on the deliveries of its own round only
-pub each-round : {n n′ : Node} → Sound n → Sound n′ → SameRound n n′ → (c : Call) → (seenOf n c ≡ seenOf n′ c) × SameRound (next n c) (next n′ c)
-each-round {n} {n′} s s′ same c =
-    subst (λ (k : Node). Sound k → SameRound n k → (seenOf n c ≡ seenOf k c) × SameRound (next n c) (next k c)) (sym others)
-    (λ t r. (seen-alike n (n′ .state .deliveries) c, next-same s t r c)) s′ same
+-- two lists of cells that are the same up to a number, and past it have none
+same-cells : {A : Type 0} (none : A) (k size : ℕ) (l l′ : List A) → length l ≡ size → length l′ ≡ size
+    → ((j : ℕ) → j < k → getD l j none ≡ getD l′ j none) → ((j : ℕ) → k ≤ j → getD l j none ≡ none) → ((j : ℕ) → k ≤ j → getD l′ j none ≡ none)
+    → l ≡ l′
+same-cells none k size l l′ all all′ each rest rest′ = ext-getD none l l′ (all ∙ sym all′) (λ j h. go j (decLt j k))
   where
-    others : n′ ≡ delivering n (n′ .state .deliveries)
-    others = rw (same .layout, same .messages, same .stages)
+    go : (j : ℕ) → Dec (j < k) → getD l j none ≡ getD l′ j none
+    go j (yes below) = each j below
+    go j (no past) = rest j (omega arith) ∙ sym (rest′ j (omega arith))
 
--- the same of calls one after the other, with closings among them
-each-run : {n n′ : Node} → Sound n → Sound n′ → SameRound n n′ → (l : List Call) → (seens n l ≡ seens n′ l) × SameRound (final n l) (final n′ l)
-each-run s s′ same [] = (refl, same)
-each-run s s′ same (c ∷ l) =
-    let (seen, after) = each-round s s′ same c in
-    let (later, end) = each-run (kept-sound s c) (kept-sound s′ c) after l in
-    (ap₂ _∷_ seen later, end)
+-- a byte that is 0 or 1 is told by whether it is 0
+one-byte : (k k′ : ℕ) → k ≤ 1 → k′ ≤ 1 → not (eqb k 0) ≡ not (eqb k′ 0) → k ≡ k′
+one-byte zero zero h h′ e = refl
+one-byte zero (suc zero) h h′ e = absurd (false≢true e)
+one-byte zero (suc (suc k)) h h′ e = absurd (omega arith)
+one-byte (suc zero) zero h h′ e = absurd (true≢false e)
+one-byte (suc zero) (suc k) h h′ e = omega arith
+one-byte (suc (suc k)) k′ h h′ e = absurd (omega arith)
 
--- whatever was delivered to each before, two sound nodes of one layout that a closing leaves with the same messages and stages show every caller the
--- same from then on
-pub earlier-rounds : {n n′ : Node} → Sound n → Sound n′ → n .layout ≡ n′ .layout
-    → next n close .state .messages ≡ next n′ close .state .messages → next n close .state .stages ≡ next n′ close .state .stages
-    → (l : List Call) → seens (next n close) l ≡ seens (next n′ close) l
-earlier-rounds {n} {n′} s s′ layout messages stages l =
-    one-layout
-    (λ (k : Node).
-    Sound k → closeOf n .messages ≡ closeOf k .messages → closeOf n .stages ≡ closeOf k .stages → seens (next n close) l ≡ seens (next k close) l)
-    n n′ layout (λ t e g. each-run (kept-sound s close) (kept-sound t close) (closed-round s t e g) l .0) s′ messages stages
+same-delivery : (h : Frame) (y y′ : Delivery) → SoundDelivery h y → SoundDelivery h y′ → isDelivered y ≡ isDelivered y′
+    → (isDelivered y ≡ true → take (h .length) (y .bytes) ≡ take (h .length) (y′ .bytes)) → y ≡ y′
+same-delivery h y y′ s s′ both same = go (isDelivered y) refl
+  where
+    go : (b : Bool) → isDelivered y ≡ b → y ≡ y′
+    go false none = s .not-delivered none ∙ sym (s′ .not-delivered (sym both ∙ none))
+    go true came =
+        let mark = one-byte (y .delivered) (y′ .delivered) (s .delivered) (s′ .delivered) both in
+        let bytes =
+        same-cells 0 (h .length) 32 (y .bytes) (y′ .bytes) (s .room) (s′ .room)
+        (λ i l. sym (getD-take (h .length) (y .bytes) i 0 l) ∙ rw (same came) (getD-take (h .length) (y′ .bytes) i 0 l)) (s .past-length)
+        (s′ .past-length) in
+        rw (mark, bytes)
+
+same-message : (g : Message) (a a′ : MessageState) → SoundMessageState g a → SoundMessageState g a′ → SameMessageState g a a′ → a ≡ a′
+same-message g a a′ s s′ same =
+    rw (
+      one-byte (a .valid) (a′ .valid) (s .valid) (s′ .valid) (valid (isSent g) (hasStatusBit g) refl refl),
+      status (isSent g) refl,
+      same .values .held,
+      same .values .old,
+    )
+  where
+    valid : (sent bit : Bool) → isSent g ≡ sent → hasStatusBit g ≡ bit → isValid a ≡ isValid a′
+    valid sent false t u = s .always-valid u ∙ sym (s′ .always-valid u)
+    valid false true t u = s .received-valid t u ∙ sym (s′ .received-valid t u)
+    valid true true t u = same .valid t u
+
+    status : (sent : Bool) → isSent g ≡ sent → a .status ≡ a′ .status
+    status true t = s .sent-status t ∙ sym (s′ .sent-status t)
+    status false t = same .status t
+
+-- two states of one layout
+module _ {n : Node} {k : State} (s : Sound n) (s′ : Sound (nodeWith n k)) (same : SameRound n (nodeWith n k)) where
+  abbrev l : Layout
+  l = n .layout
+
+  each-delivery : (f : ℕ) → f < l .frame-number → deliveryAt (n .state) f ≡ deliveryAt k f
+  each-delivery f h = go (isSentFrame (frameAt l f)) refl
+    where
+      go : (b : Bool) → isSentFrame (frameAt l f) ≡ b → deliveryAt (n .state) f ≡ deliveryAt k f
+      go true sent =
+          let y = s .state .deliveries f h in
+          let y′ = s′ .state .deliveries f h in
+          y .not-delivered (y .sent sent) ∙ sym (y′ .not-delivered (y′ .sent sent))
+      go false received =
+          let one = same .deliveries f h received in
+          same-delivery (frameAt l f) _ _ (s .state .deliveries f h) (s′ .state .deliveries f h) (one .frame) (one .bytes)
+
+  each-stage : (d : ℕ) → d < l .field-number → stageAt (n .state) d ≡ stageAt k d
+  each-stage d h = go (isSent (messageAt l (laidAt l d .message))) refl
+    where
+      go : (b : Bool) → isSent (messageAt l (laidAt l d .message)) ≡ b → stageAt (n .state) d ≡ stageAt k d
+      go true sent = same .messages .stages d h sent
+      go false received = s .state .stages d h .always-gone received ∙ sym (s′ .state .stages d h .always-gone received)
+
+  same-state : n .state ≡ k
+  same-state =
+      let deliveries =
+      same-cells noDelivery (l .frame-number) 32 (n .state .deliveries) (k .deliveries) (s .state .delivery-cells) (s′ .state .delivery-cells)
+      each-delivery (s .state .no-deliveries) (s′ .state .no-deliveries) in
+      let states =
+      same-cells noState (l .message-number) 32 (n .state .messages) (k .messages) (s .state .message-cells) (s′ .state .message-cells)
+      (λ m h. same-message _ _ _ (s .state .messages m h) (s′ .state .messages m h) (same .messages .states m h)) (s .state .no-states)
+      (s′ .state .no-states) in
+      let stages =
+      same-cells noStage (l .field-number) 128 (n .state .stages) (k .stages) (s .state .stage-cells) (s′ .state .stage-cells) each-stage
+      (s .state .no-stages) (s′ .state .no-stages) in
+      rw (deliveries, states, stages)
+
+pub same-node : {n n′ : Node} → Sound n → Sound n′ → n .layout ≡ n′ .layout → SameRound n n′ → n ≡ n′
+same-node {n} {n′} s s′ layout =
+    one-layout (λ (k : Node). Sound k → SameRound n k → n ≡ k) n n′ layout (λ t same. rw (same-state s t same)) s′
+
+-- two layouts that say the same
+pub same-layout : {l l′ : Layout} → SoundLayout l → SoundLayout l′ → SameLayout l l′ → l ≡ l′
+same-layout {l} {l′} s s′ same =
+    let frames =
+    same-cells noFrame (l .frame-number) 32 (l .frames) (l′ .frames) (s .frame-cells) (s′ .frame-cells) (same .frames) (s .no-frames)
+    (λ f past. s′ .no-frames f (rw (← same .frame-number) past)) in
+    let messages =
+    same-cells noMessage (l .message-number) 32 (l .messages) (l′ .messages) (s .message-cells) (s′ .message-cells) (same .messages) (s .no-messages)
+    (λ m past. s′ .no-messages m (rw (← same .message-number) past)) in
+    let fields =
+    same-cells notLaid (l .field-number) 128 (l .fields) (l′ .fields) (s .field-cells) (s′ .field-cells) (same .fields) (s .no-fields)
+    (λ d past. s′ .no-fields d (rw (← same .field-number) past)) in
+    let index =
+    same-cells 0 (l .field-number) 128 (l .index) (l′ .index) (s .index-cells) (s′ .index-cells) (same .index) (s .none-listed)
+    (λ i past. s′ .none-listed i (rw (← same .field-number) past)) in
+    rw (same .frame-number, same .message-number, same .field-number, frames, messages, fields, index)
+
+pub each-round : {n n′ : Node} → Sound n → Sound n′ → SameLayout (n .layout) (n′ .layout) → SameRound n n′ → n ≡ n′
+each-round s s′ layout = same-node s s′ (same-layout (s .layout) (s′ .layout) layout)
+
+-- whatever was delivered to each before it
+pub closed-round : {n n′ : Node} → Sound n → Sound n′ → n .layout ≡ n′ .layout → SameMessages (next n close) (next n′ close) → next n close ≡ next n′ close
+closed-round {n} {n′} s s′ layout messages =
+    same-node (kept-sound s close) (kept-sound s′ close) layout (record { messages = messages; deliveries = none })
+  where
+    none : (f : ℕ) → f < n .layout .frame-number → isSentFrame (frameAt (n .layout) f) ≡ false → SameDelivery (next n close) (next n′ close) f
+    none f l received =
+        let gone = delivery-closed s f l in
+        let gone′ = delivery-closed s′ f (rw (← layout) l) in
+        record { frame = rw (gone, gone′) refl; bytes = λ came. absurd (false≢true (rw gone at came)) }

@@ -17,7 +17,7 @@ use Rattle.node.specs.Calls.{sendAnswer, sendOf, flagAnswer, goneAt, flagOf, fl
 use Rattle.own.specs.SoundLayout.{SoundLayout}
 use Rattle.node.specs.Sound.{Sound}
 use Rattle.node.proofs.Answers.{send-tests, send-access}
-use Rattle.order.specs.Runs.{Call, send, readFlag, Seen, answerOf, seenOf, next, final}
+use Rattle.calls.specs.Contracts.{Call, send, readFlag, Seen, answerOf, seenOf, next, final}
 use Rattle.order.specs.Flag.{Sent, GoesOut, AllOut, shows}
 use Rattle.order.proofs.Among.{in-none, before-in}
 use Rattle.order.proofs.Kept.{kept-sound, final-layout}

@@ -16,17 +16,18 @@ use Rattle.agreement.specs.declared.Agreed.the-variants.{Value, NoResult}
 use Rattle.agreement.specs.Agreement.{oneThat, vote}
 use Rattle.agreement.specs.Floats.{leftOf, sumFrom, finiteValue, floatMean, leftAgreed, floatsAgreed}
 use Rattle.agreement.proofs.Running.{left-few}
+use Rattle.filter.specs.Filter.{rules, passes}
 use Rattle.store.specs.declared.Message.{Message}
 use Rattle.store.specs.declared.MessageState.{MessageState}
 use Rattle.store.specs.Node.{Node, isSent, isFloat, messageAt, stateAt, withStatus}
-use Rattle.message.specs.Messages.{agreedBy, agreedOn}
-use Rattle.node.specs.Closing.{instances}
+use Rattle.message.specs.Messages.{passesNow, agreedBy, agreedOn}
+use Rattle.closing.specs.Closing.{instances, isReceived}
 use Rattle.node.specs.Sound.{Sound}
-use Rattle.node.proofs.Instances.{instances-few, agreed-in-message}
-use Rattle.node.proofs.Rounds.{closed-some}
-use Rattle.order.specs.Runs.{close, receive, value, seenOf, next}
+use Rattle.closing.proofs.Instances.{instances-few, agreed-in-message}
+use Rattle.closing.proofs.Rounds.{closed-some}
+use Rattle.calls.specs.Contracts.{close, receive, value, seenOf, next}
 use Rattle.order.specs.Floats.{noneShown, meanShown}
-use Rattle.order.proofs.FromSender.{closed-shown, passed-shown}
+use Rattle.order.proofs.Shown.{is-received, closed-shown, passed-shown}
 
 pub floats-agree : (n : Node) (m : ℕ) → isFloat (messageAt (n .layout) m) ≡ true
     → agreedBy (messageAt (n .layout) m) (instances n m) ≡ leftAgreed (messageAt (n .layout) m .agreement) (leftOf (instances n m))
@@ -50,6 +51,11 @@ mean-agreed : (a : ℕ) (l : List ℤ) (v : ℤ) (k : List ℤ) → a ≡ 1 → 
 unfolding leftAgreed floatMean
 mean-agreed a l v k e f = rw (e, f) refl
 
+-- filter True passes every value
+true-passes : (g : Message) (a : MessageState) (v : ℤ) → g .filter ≡ 0 → passesNow g a v ≡ true
+unfolding passesNow passes rules
+true-passes g a v through = rw through refl
+
 module _ {n : Node} (s : Sound n) (m : ℕ) (l : m < n .layout .message-number) (received : isSent (messageAt (n .layout) m) ≡ false)
     (float : isFloat (messageAt (n .layout) m) ≡ true) (p : ℤ) where
   abbrev g : Message
@@ -58,10 +64,13 @@ module _ {n : Node} (s : Sound n) (m : ℕ) (l : m < n .layout .message-number) 
   abbrev before : MessageState
   before = stateAt (n .state) m
 
+  heard : isReceived (n .layout) m ≡ true
+  heard = is-received (s .layout) m l received
+
   shows-none : 0 < length (instances n m) → leftAgreed (g .agreement) (leftOf (instances n m)) ≡ NoResult
       → seenOf (next n close) (receive m p) ≡ noneShown p
   shows-none h e =
-      closed-shown s m p l received (withStatus 20 before) (closed-some n m before h ∙ ap (agreedOn g before) (floats-agree n m float ∙ e))
+      closed-shown s m heard p (withStatus 20 before) (closed-some n m before h ∙ ap (agreedOn g before) (floats-agree n m float ∙ e))
 
   pub all-aside : (instances n m ≡ [] → ⊥) → leftOf (instances n m) ≡ [] → seenOf (next n close) (receive m p) ≡ noneShown p
   all-aside counting none = shows-none (some-of (instances n m) counting) (ap (leftAgreed (g .agreement)) none ∙ none-agree (g .agreement))
@@ -93,5 +102,5 @@ module _ {n : Node} (s : Sound n) (m : ℕ) (l : m < n .layout .message-number) 
       go false a =
           let mean = floats-agree n m float ∙ agreed ∙ finite a in
           let message = s .layout .messages m l in
-          passed-shown s m p l received (pos x) through (agreed-in-message n m (pos x) (message .width) (message .float-width) mean)
+          passed-shown s m heard p (pos x) (agreed-in-message n m (pos x) (message .width) (message .float-width) mean) (true-passes g before (pos x) through)
           (closed-some n m before counting ∙ ap (agreedOn g before) mean)

@@ -24,9 +24,9 @@ use Rattle.own.specs.Own.{changed, cellsOf, fieldsOf}
 use Rattle.node.specs.Calls.{sendOf, invalidateOf, invalidIn, suppressed, assembleAnswer, written, assembleOf, assembled, consumedOf}
 use Rattle.node.specs.Calls.{goneAt, flagOf, flagPlace, kept, deliverOf, receiveAnswer, receivedPlace}
 use Rattle.own.proofs.Lists.{changed-length, changed-at, Every, every-more, every-number}
-use Rattle.order.specs.Runs.{Call, send, invalidate, assemble, consumed, readFlag, deliver, close, receive}
-use Rattle.order.specs.Runs.{Seen, buffer, answerOf, seenOf, next}
-use Rattle.order.specs.Order.{Name, message, frame, nameOf, linked, dependent}
+use Rattle.calls.specs.Contracts.{Call, send, invalidate, assemble, consumed, readFlag, deliver, close, receive}
+use Rattle.calls.specs.Contracts.{Seen, buffer, answerOf, seenOf, next}
+use Rattle.order.specs.Order.{Name, message, frame, nameOf, dependent}
 use Rattle.order.proofs.Carried.{carrying}
 use Rattle.order.proofs.Cells.{Cell, stateCell, deliveryCell, stageCell, writes, reads, writes-reads, apart, not-linked}
 use Rattle.order.proofs.Chosen.{all-alike, each-field}
@@ -79,15 +79,15 @@ replaced f d l m =
 
 -- ---- what a call does to each cell that its name writes, if it is answered 0
 
-record Effect : Type 0 where
-  deliveries : Delivery → Delivery
-  messages : MessageState → MessageState
-  stages : Stage → Stage
+pub record Effect : Type 0 where
+  pub deliveries : Delivery → Delivery
+  pub messages : MessageState → MessageState
+  pub stages : Stage → Stage
 
-abbrev on-stages : (Stage → Stage) → Effect
+abbrev pub on-stages : (Stage → Stage) → Effect
 on-stages g = record { deliveries = λ y. y; messages = λ t. t; stages = g }
 
-abbrev effect : Layout → Call → Effect
+abbrev pub effect : Layout → Call → Effect
 effect l (send m v) = record { deliveries = λ y. y; messages = λ t. offered (messageAt l m) t v; stages = stageAfter Change.Send }
 effect l (invalidate m) = record { deliveries = λ y. y; messages = invalidated; stages = λ t. t }
 effect l (assemble f b) = on-stages (stageAfter Change.Load)
@@ -97,7 +97,7 @@ effect l (deliver f valid d) = record { deliveries = λ y. cond valid (kept y d)
 effect l close = on-stages (λ t. t)
 effect l (receive m p) = on-stages (λ t. t)
 
-abbrev spread : Layout → Name → Effect → State → State
+abbrev pub spread : Layout → Name → Effect → State → State
 spread l a g s =
     record {
       deliveries = changed (λ j. writes l a (deliveryCell j)) (λ j. g .deliveries) 0 (s .deliveries);
@@ -106,22 +106,22 @@ spread l a g s =
     }
 
 -- the state after a call, whether it is answered 0 or not
-abbrev after : Layout → Call → Bool → State → State
+abbrev pub after : Layout → Call → Bool → State → State
 after l c t s = cond t (spread l (nameOf c) (effect l c) s) s
 
--- every call but a closing, which is linked with all
-next-after : (n : Node) (c : Call) (b : Name) → linked (n .layout) (nameOf c) b ≡ false
+-- every call but a closing
+pub next-after : (n : Node) (c : Call) → (close ≡ c → ⊥)
     → next n c ≡ nodeWith n (after (n .layout) c (eqb (answerOf n c) 0) (n .state))
 unfolding sendOf invalidateOf assembleOf consumedOf deliverOf
-next-after n (send m v) b u = simp (unchanged, replaced (λ t. offered (messageAt (n .layout) m) t v) noState (n .state .messages) m)
-next-after n (invalidate m) b u = simp (unchanged, replaced invalidated noState (n .state .messages) m)
-next-after n (assemble f d) b u = simp unchanged
-next-after n (consumed f) b u = simp unchanged
-next-after n (readFlag m p) b u = simp (unchanged, cond-same)
-next-after n (deliver f true d) b u = simp (unchanged, replaced (λ y. kept y d) noDelivery (n .state .deliveries) f)
-next-after n (deliver f false d) b u = simp unchanged
-next-after n close b u = absurd (true≢false u)
-next-after n (receive m p) b u = simp (unchanged, cond-same)
+next-after n (send m v) other = simp (unchanged, replaced (λ t. offered (messageAt (n .layout) m) t v) noState (n .state .messages) m)
+next-after n (invalidate m) other = simp (unchanged, replaced invalidated noState (n .state .messages) m)
+next-after n (assemble f d) other = simp unchanged
+next-after n (consumed f) other = simp unchanged
+next-after n (readFlag m p) other = simp (unchanged, cond-same)
+next-after n (deliver f true d) other = simp (unchanged, replaced (λ y. kept y d) noDelivery (n .state .deliveries) f)
+next-after n (deliver f false d) other = simp unchanged
+next-after n close other = absurd (other refl)
+next-after n (receive m p) other = simp (unchanged, cond-same)
 
 -- ---- what a caller sees depends on the cells that its call's name reads
 
@@ -208,12 +208,16 @@ module _ (l : Layout) (s : State) (c d : Call) (u : dependent l c d ≡ false) w
   swap true false = refl
   swap false t′ = refl
 
+-- a closing is linked with all
+no-closing : (l : Layout) (c d : Call) → dependent l c d ≡ false → close ≡ c → ⊥
+no-closing l c d u e = true≢false (ap (λ (k : Call). dependent l k d) e ∙ u)
+
 module _ (n : Node) (c d : Call) (u : dependent (n .layout) c d ≡ false) where
   abbrev left : State
   left = after (n .layout) c (eqb (answerOf n c) 0) (n .state)
 
   next-left : next n c ≡ nodeWith n left
-  next-left = next-after n c (nameOf d) u
+  next-left = next-after n c (no-closing (n .layout) c d u)
 
   seen-left : seenOf (nodeWith n left) d ≡ seenOf n d
   seen-left = seen-same (n .layout) left (n .state) d (alike (n .layout) (n .state) c d u (eqb (answerOf n c) 0))
@@ -224,7 +228,7 @@ module _ (n : Node) (c d : Call) (u : dependent (n .layout) c d ≡ false) where
   twice : next (next n c) d ≡ nodeWith n (after (n .layout) d (eqb (answerOf n d) 0) left)
   twice =
       ap (λ (k : Node). next k d) next-left
-      ∙ next-after (nodeWith n left) d (nameOf c) (not-linked (n .layout) (nameOf c) (nameOf d) u)
+      ∙ next-after (nodeWith n left) d (no-closing (n .layout) d c (not-linked (n .layout) (nameOf c) (nameOf d) u))
       ∙ ap (λ (r : Seen). nodeWith n (after (n .layout) d (eqb (r .answer) 0) left)) seen-left
 
 -- c and d may change places at n

@@ -7,7 +7,7 @@ use Rattle.store.specs.Node.{Node}
 use Rattle.node.specs.Calls.{sendOf, invalidateOf, assembleOf, consumedOf, deliverOf}
 use Rattle.node.specs.Sound.{Sound}
 use Rattle.node.proofs.Kept.{send-kept, invalidate-kept, assemble-kept, consumed-kept, deliver-kept, close-kept}
-use Rattle.order.specs.Runs.{Call, send, invalidate, assemble, consumed, readFlag, deliver, close, receive, next, final}
+use Rattle.calls.specs.Contracts.{Call, send, invalidate, assemble, consumed, readFlag, deliver, close, receive, next, final}
 
 pub kept-layout : (n : Node) (c : Call) → next n c .layout ≡ n .layout
 unfolding sendOf invalidateOf assembleOf consumedOf deliverOf
@@ -34,3 +34,7 @@ kept-sound s (receive m p) = s
 pub final-layout : (n : Node) (l : List Call) → final n l .layout ≡ n .layout
 final-layout n [] = refl
 final-layout n (c ∷ l) = final-layout (next n c) l ∙ kept-layout n c
+
+pub final-sound : {n : Node} → Sound n → (l : List Call) → Sound (final n l)
+final-sound s [] = s
+final-sound s (c ∷ l) = final-sound (kept-sound s c) l

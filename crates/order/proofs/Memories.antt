@@ -8,8 +8,8 @@ use lib.ListN.{take}
 use Rattle.store.specs.Node.{Node, layoutSize, layoutOf, nodeOf}
 use Rattle.store.proofs.RoundTrip.{same-memory, same-layout-bytes}
 use Rattle.node.specs.Calls.{Outcome, left}
-use Rattle.order.specs.Runs.{Call, send, invalidate, assemble, consumed, readFlag, deliver, close, receive}
-use Rattle.order.specs.Runs.{Lent, Seen, seenOf, next, Memory, Does}
+use Rattle.calls.specs.Contracts.{Call, send, invalidate, assemble, consumed, readFlag, deliver, close, receive}
+use Rattle.calls.specs.Contracts.{Lent, Seen, seenOf, next, Memory, Does}
 use Rattle.order.specs.Order.{Numbered, Result, end, results, Ran, done, step}
 use Rattle.order.proofs.Kept.{kept-layout}
 

@@ -11,7 +11,7 @@ use Rattle.float.specs.declared.FloatSum.{FloatSum}
 use Rattle.store.specs.Node.{Node, nodeOf}
 use Rattle.node.specs.Calls.{Outcome, left}
 use Rattle.node.specs.Load.{loadOf}
-use Rattle.order.specs.Runs.{Call, Seen, Memory, Does}
+use Rattle.calls.specs.Contracts.{Call, Seen, Memory, Does}
 use Rattle.order.specs.Once.{Single, Ended, Returned, Once}
 use Rattle.order.proofs.Memories.{by-node, does-means}
 
@@ -81,7 +81,8 @@ once =
       read-layout = λ file. one _;
       no-message = one _;
       no-state = one _;
-      counts = λ b. one _;
+      smaller = λ a b. one _;
+      counts-of = λ b. one _;
       has-frame = λ b f. one _;
       has-message = λ b m. one _;
       frame-at = λ b f. one _;
@@ -116,6 +117,7 @@ once =
       places-of = λ b o r s p q. p .0 ∙ sym (q .0);
       cell-at = λ b o i r s p q. p .0 ∙ sym (q .0);
       own = λ b o d. one _;
+      close-round = λ b. one-memory _;
       call = one-call;
       load = one-load;
       list-file = λ file out a b p q.

@@ -6,7 +6,7 @@ use mathlib.Core.Path.{refl, sym, subst, _∙_}
 use mathlib.Core.List.{List}
 use Prim.Native.Nat.{ℕ}
 use Rattle.store.specs.Node.{Layout, nodeOf, layoutOf}
-use Rattle.order.specs.Runs.{Memory}
+use Rattle.calls.specs.Contracts.{Memory}
 use Rattle.order.specs.Order.{nameOf, Numbered, Result, In, Reordered, Ran, SameOutcome}
 use Rattle.order.proofs.Cells.{not-linked}
 use Rattle.order.proofs.Memories.{by-node, ran-means}

@@ -17,8 +17,8 @@ use Rattle.store.specs.Node.{Node, nodeOf}
 use Rattle.node.specs.Calls.{Outcome, left, sendOf, invalidateOf, assembleAnswer, assembleOf, assembled, consumedOf, flagAnswer, flagPlace, deliverOf}
 use Rattle.node.specs.Calls.{receiveAnswer, receivedPlace}
 use Rattle.node.specs.Load.{refusalAnswer, loaded, loadOf}
-use Rattle.order.specs.Runs.{Call, send, invalidate, assemble, consumed, readFlag, deliver, close, receive}
-use Rattle.order.specs.Runs.{Seen, answerOf, lentBefore, lentAfter, next, Memory, Does}
+use Rattle.calls.specs.Contracts.{Call, send, invalidate, assemble, consumed, readFlag, deliver, close, receive}
+use Rattle.calls.specs.Contracts.{Seen, answerOf, lentBefore, lentAfter, next, Memory, Does}
 use Rattle.order.proofs.Memories.{by-node, does-means}
 
 -- on a node
@@ -42,7 +42,7 @@ refusal b c s e before after does h =
     (by-node e b after before (means .node ∙ same .0), ap (λ (x : Seen). x .lent) (means .seen) ∙ same .1)
 
 -- a refused file leaves the node
-load-refused : (n : Node) (file : List ℕ) → (loadOf n file .answer ≡ 0 → ⊥) → loadOf n file .node ≡ n
+pub load-refused : (n : Node) (file : List ℕ) → (loadOf n file .answer ≡ 0 → ⊥) → loadOf n file .node ≡ n
 unfolding loadOf
 load-refused n file h = go (verdict file) h
   where

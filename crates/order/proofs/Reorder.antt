@@ -6,7 +6,7 @@ use mathlib.Core.List.{List, [], _∷_, _++_}
 use mathlib.Core.Logic.{⊎-elim}
 use mathlib.Core.Bool.{false}
 use Rattle.store.specs.Node.{Layout, Node}
-use Rattle.order.specs.Runs.{Call, Seen, next}
+use Rattle.calls.specs.Contracts.{Call, Seen, next}
 use Rattle.order.specs.Order.{dependent, Numbered, Result, In, here, there, first, later, Reordered, end, results}
 use Rattle.order.proofs.Among.{in-none, in-cases, in-eq, in-add, in-less, in-left, before-add, before-mid, before-twice, split}
 use Rattle.order.proofs.Footprints.{Commutes, commute}

@@ -21,13 +21,13 @@ use Rattle.own.specs.declared.Owner.{Owner}
 use Rattle.own.specs.Own.{isIn, names, cellsOf}
 use Rattle.node.specs.Calls.{outcome, moved, sendAnswer, sendOf, invalidateAnswer, invalidateOf}
 use Rattle.node.specs.Calls.{assembleAnswer, assembleOf, consumedAnswer, consumedOf, goneAt, deliverAnswer, deliverOf}
-use Rattle.node.specs.Closing.{closeMessages, forget, closeOf}
+use Rattle.closing.specs.Closing.{closeMessages, forget, closeOf}
 use Rattle.node.specs.Sound.{Sound}
 use Rattle.own.proofs.Lists.{by-test, changed-at}
 use Rattle.own.proofs.Owners.{fields-named}
-use Rattle.order.specs.Runs.{Call, send, invalidate, assemble, consumed, readFlag, deliver, close, receive, answerOf, next, final}
+use Rattle.calls.specs.Contracts.{Call, send, invalidate, assemble, consumed, readFlag, deliver, close, receive, answerOf, next, final}
 use Rattle.order.specs.Order.{In, here, there, first, later}
-use Rattle.order.specs.Flag.{Answered, withAnswer, done, answered, Sent, GoesOut}
+use Rattle.order.specs.Flag.{Answered, withAnswer, succeeded, answered, Sent, GoesOut}
 use Rattle.order.proofs.Among.{in-none, in-cases, before-in, before-cases}
 use Rattle.order.proofs.Kept.{kept-layout, kept-sound}
 use Rattle.order.proofs.Carried.{FieldOf}
@@ -58,7 +58,7 @@ module _ {m f : ℕ} {n : Node} where
   consumed-takes (Gone k) a = stays
 
 -- call c was answered as call a with answer 0 is: it is that call, and was answered 0
-by-done : (n : Node) (a : Call) (P : Call → Type 0) → (answerOf n a ≡ 0 → P a) → (c : Call) → done a ≡ withAnswer n c → P c
+by-done : (n : Node) (a : Call) (P : Call → Type 0) → (answerOf n a ≡ 0 → P a) → (c : Call) → succeeded a ≡ withAnswer n c → P c
 by-done n a P h c e =
     let call : a ≡ c = ap (λ (k : Answered). k .call) e in
     let answer : answerOf n c ≡ 0 = sym (ap (λ (k : Answered). k .answer) e) in
@@ -122,13 +122,13 @@ module _ {n : Node} {d m f : ℕ} (s : Sound n) (x : FieldOf (n .layout) d m f) 
       waiting Loaded = refl
       waiting (Gone k) = refl
 
-  assemble-loads : (b : List ℕ) (c : Call) → done (assemble f b) ≡ withAnswer n c → stageAt (next n c .state) d ≡ stageAfter Change.Load stage
+  assemble-loads : (b : List ℕ) (c : Call) → succeeded (assemble f b) ≡ withAnswer n c → stageAt (next n c .state) d ≡ stageAfter Change.Load stage
   unfolding assembleOf
   assemble-loads b =
       by-done n (assemble f b) (λ (c : Call). stageAt (next n c .state) d ≡ stageAfter Change.Load stage)
       (λ a. rw a (moved-own Change.Load (Owner.Frame f) (eq-eqb _ f (x .frame))))
 
-  consumed-goes : (c : Call) → done (consumed f) ≡ withAnswer n c → stageAt (next n c .state) d ≡ stageAfter Change.Consume stage
+  consumed-goes : (c : Call) → succeeded (consumed f) ≡ withAnswer n c → stageAt (next n c .state) d ≡ stageAfter Change.Consume stage
   unfolding consumedOf
   consumed-goes =
       by-done n (consumed f) (λ (c : Call). stageAt (next n c .state) d ≡ stageAfter Change.Consume stage)
@@ -139,7 +139,7 @@ module _ {n : Node} {d m f : ℕ} (s : Sound n) (x : FieldOf (n .layout) d m f) 
 -- what the calls must hold for a field of frame f at the stage to be gone after them
 abbrev pub Goes : Stage → Node → ℕ → List Call → Type 0
 Goes Waiting n f l = GoesOut n f l
-Goes Loaded n f l = In (done (consumed f)) (answered n l)
+Goes Loaded n f l = In (succeeded (consumed f)) (answered n l)
 Goes (Gone k) n f l = Unit {0}
 
 at-end : (n : Node) (f : ℕ) (s : Stage) → (isGone s ≡ true) ↔ Goes s n f []

@@ -1,118 +1,139 @@
--- There and back: what a node sends, a node that mirrors it receives. What the sender assembles is delivered with its length and kept as it came; the
--- closing then shows what the sender holds, or 22. A send whose value the filter passes makes the message valid with that value; any other makes it
--- invalid, and so does invalidating, and then the message has a status bit that says so.
+-- There and back: what a node sends, a node that mirrors its field receives. What the sender assembles is delivered with its length and kept as it
+-- came; the closing then shows what the sender holds, or 21 or 22. A send whose value the filter passes makes the message valid with that value; any
+-- other makes it invalid, and so does invalidating, and then the message has a status bit that says so.
 -- Assumes nothing.
-use mathlib.Core.Path.{_≡_, refl, sym, _∙_}
-use mathlib.Core.Bool.{true, false, not, or-true, true≢false}
-use mathlib.Core.List.{List, [], _∷_}
+use mathlib.Core.Path.{_≡_, refl, sym, subst, _∙_}
+use mathlib.Core.Bool.{true, false, not, and-eq-true-iff, or-true, true≢false}
+use mathlib.Core.List.{List, []}
 use Prim.Native.Nat.{ℕ, _<_}
 use native.Mathlib.Decide.{ℕ-discrete}
 use native.Mathlib.Omega.{arith}
+use lib.Dec.{ltb}
 use lib.IntN.{ℤ}
 use lib.ListN.{length}
 use lib.Seq.{getD-set-same, getD-set-other}
-use borrow.Author.Tests.{lt-ltb, eq-eqb, ne-eqb}
+use borrow.Author.Tests.{lt-ltb, eq-eqb, ne-eqb, not-true}
 use Rattle.filter.specs.Filter.{rules, passes}
+use Rattle.record.specs.declared.Field.{Field as FieldRecord}
 use Rattle.store.specs.declared.Message.{Message}
-use Rattle.store.specs.Node.{Delivery, Node, frameCount, hasStatusBit, isSentFrame, heldValue, noDelivery, noState}
-use Rattle.store.specs.Node.{frameAt, messageAt, laidAt, deliveryAt, stateAt, withDelivery, nodeWith}
+use Rattle.store.specs.Node.{Delivery, Node, frameCount, messageCount, hasStatusBit, isSentFrame, heldValue, noDelivery, noState}
+use Rattle.store.specs.Node.{frameAt, messageAt, deliveryAt, stateAt, dataAt, withDelivery, nodeWith}
 use Rattle.message.specs.Messages.{passesNow, put, offered, invalidated}
 use Rattle.own.specs.declared.Owner.{Owner}
+use Rattle.own.specs.Own.{fieldsOf}
+use Rattle.own.specs.SoundLayout.{SoundField}
+use Rattle.own.proofs.Lists.{Every, every-more}
 use Rattle.node.specs.Calls.{sendOf, invalidateOf}
 use Rattle.node.specs.Calls.{assembleAnswer, assembleOf, assembled, deliverAnswer, kept, deliverOf}
-use Rattle.node.specs.Closing.{came, noneCame}
+use Rattle.closing.specs.Closing.{came, statusSet, counts, instances, isReceived}
 use Rattle.node.specs.Sound.{Sound}
-use Rattle.node.proofs.Answers.{send-tests, send-access, invalidate-tests, invalidate-status, assemble-access}
+use Rattle.node.proofs.Answers.{send-tests, send-access, invalidate-tests, invalidate-status}
 use Rattle.node.proofs.Delivered.{kept-data}
 use Rattle.node.proofs.Kept.{pattern-held}
 use Rattle.node.proofs.Meaning.{assembled-length}
-use Rattle.own.proofs.Owners.{fields-named}
-use Rattle.order.specs.Runs.{send, invalidate, assemble, deliver, close, receive, value, answerOf, seenOf, next, final}
-use Rattle.order.specs.Order.{carries}
-use Rattle.order.specs.Mirror.{Mirrors, goesValid, Holds, FromSender}
+use Rattle.calls.specs.Contracts.{send, invalidate, assemble, deliver, receive, value, answerOf, sees, seenOf, next}
+use Rattle.order.specs.Mirror.{Mirrors, goesValid, afterRound}
 use Rattle.order.proofs.Kept.{kept-sound}
-use Rattle.order.proofs.Carried.{FieldOf, carried}
-use Rattle.order.proofs.FromSender.{some-came, none-came, closed-valid, closed-invalid}
+use Rattle.order.proofs.Chosen.{chosen-none}
+use Rattle.order.proofs.FrameOrder.{its-cell}
+use Rattle.order.proofs.FromSender.{closed-passed, closed-stopped, closed-invalid}
 
--- ---- one delivery
+-- ---- one round
 
--- frame f, in which field d of message m lies, is assembled by s and delivered to r
-module _ {s r : Node} (sender : Sound s) (receiver : Sound r) (mirror : Mirrors (s .layout) (r .layout)) {f m d : ℕ}
-    (lies : FieldOf (s .layout) d m f) (b : List ℕ) (ok : answerOf s (assemble f b) ≡ 0) where
-  answers-0 : assembleAnswer s f (length b) ≡ 0
+-- what s assembles of x's frame comes to r as x′'s frame, in a round in which no other instance of message m′ counts; p is what the caller's place held
+module _ {s r : Node} (sender : Sound s) (receiver : Sound r) {m m′ : ℕ} {x x′ : FieldRecord} (mirror : Mirrors (s .layout) (r .layout) m m′ x x′)
+    (fresh : instances r m′ ≡ []) (b : List ℕ) (ok : answerOf s (assemble (x .frame) b) ≡ 0) (p : ℤ) where
+  abbrev sent : List ℕ
+  sent = assembled s (x .frame) b
+
+  abbrev fields : List FieldRecord
+  fields = fieldsOf (r .layout) (Owner.Message m′)
+
+  assembles : assembleAnswer s (x .frame) (length b) ≡ 0
   unfolding assembleOf
-  answers-0 = ok
+  assembles = ok
 
-  frame-known : f < s .layout .frame-number
-  frame-known = rw (lies .frame) at (sender .layout .fields d (lies .known) .frame)
+  -- x′ as the receiver's layout has it
+  its-field : SoundField (r .layout) (its-cell (receiver .layout) m′ (mirror .field′) .0) x′
+  its-field =
+      let (d, its, laid) = its-cell (receiver .layout) m′ (mirror .field′) in
+      subst (SoundField (r .layout) d) laid (receiver .layout .fields d (its .0))
 
-  frame-known′ : f < r .layout .frame-number
-  frame-known′ = rw (mirror .frame-number) frame-known
+  its-message : x′ .message ≡ m′
+  its-message = let (d, its, laid) = its-cell (receiver .layout) m′ (mirror .field′) in rw laid at (its .1)
 
-  same-size : length (assembled s f b) ≡ frameAt (r .layout) f .length
-  same-size = assembled-length s f b answers-0 ∙ sym (mirror .frames f frame-known .length)
+  size : length sent ≡ frameAt (r .layout) (x′ .frame) .length
+  size = assembled-length s (x .frame) b assembles ∙ mirror .lies .length
 
-  accepted : answerOf r (deliver f true (assembled s f b)) ≡ 0
-  unfolding deliverOf deliverAnswer
+  accepted : answerOf r (deliver (x′ .frame) true sent) ≡ 0
+  unfolding deliverOf deliverAnswer isReceived
   accepted =
-      let known : f < frameCount (r .layout) = omega (arith, frame-known′, receiver .layout .few-frames) in
-      let sent = assemble-access s f (length b) answers-0 in
-      let received : isSentFrame (frameAt (r .layout) f) ≡ false = mirror .frames f frame-known .direction ∙ rw sent refl in
-      rw (lt-ltb f (frameCount (r .layout)) known, received, eq-eqb (length (assembled s f b)) (frameAt (r .layout) f .length) same-size) refl
+      let known : x′ .frame < frameCount (r .layout) = omega (arith, its-field .frame, receiver .layout .few-frames) in
+      let heard = not-true _ (and-eq-true-iff (ltb m′ (messageCount (r .layout))) _ .0 (mirror .received) .1) in
+      let direction : isSentFrame (frameAt (r .layout) (x′ .frame)) ≡ false = rw (← its-field .directions, its-message) heard in
+      rw (lt-ltb (x′ .frame) (frameCount (r .layout)) known, direction, eq-eqb (length sent) (frameAt (r .layout) (x′ .frame) .length) size) refl
 
   abbrev came-in : Delivery
-  came-in = kept (deliveryAt (r .state) f) (assembled s f b)
+  came-in = kept (deliveryAt (r .state) (x′ .frame)) sent
 
   abbrev after : Node
-  after = nodeWith r (withDelivery (r .state) f came-in)
+  after = nodeWith r (withDelivery (r .state) (x′ .frame) came-in)
 
-  delivered-node : next r (deliver f true (assembled s f b)) ≡ after
+  delivered : next r (deliver (x′ .frame) true sent) ≡ after
   unfolding deliverOf
-  delivered-node = rw accepted refl
+  delivered = rw accepted refl
 
   sound-after : Sound after
-  sound-after = rw delivered-node at (kept-sound receiver (deliver f true (assembled s f b)))
+  sound-after = rw delivered at (kept-sound receiver (deliver (x′ .frame) true sent))
 
-  delivery-after : deliveryAt (after .state) f ≡ came-in
+  delivery-after : deliveryAt (after .state) (x′ .frame) ≡ came-in
   delivery-after =
-      let room : f < length (r .state .deliveries) = omega (arith, frame-known′, receiver .layout .few-frames, receiver .state .delivery-cells) in
-      getD-set-same (r .state .deliveries) f came-in noDelivery room
+      let room : x′ .frame < length (r .state .deliveries) =
+      omega (arith, its-field .frame, receiver .layout .few-frames, receiver .state .delivery-cells) in
+      getD-set-same (r .state .deliveries) (x′ .frame) came-in noDelivery room
 
-  holds-after : Holds s after f
-  holds-after =
-      let stands = kept-data (frameAt (r .layout) f) (deliveryAt (r .state) f) (assembled s f b) (receiver .state .deliveries f frame-known′)
-      (receiver .layout .frames f frame-known′ .length-to) same-size in
-      record { before = b; assembles = ok; same = rw delivery-after stands }
+  data-after : dataAt after (x′ .frame) ≡ sent
+  data-after =
+      rw delivery-after
+      (kept-data (frameAt (r .layout) (x′ .frame)) (deliveryAt (r .state) (x′ .frame)) sent (receiver .state .deliveries (x′ .frame) (its-field .frame))
+      (receiver .layout .frames (x′ .frame) (its-field .frame) .length-to) size)
 
-  some-after : noneCame after m ≡ false
+  here : came (after .state) x′ ≡ true
   unfolding came kept
-  some-after =
-      let x = mirror .fields d (lies .known) in
-      let named = fields-named (receiver .layout) (Owner.Message m) d in
-      let mine = named .1 (rw (mirror .field-number) (lies .known), rw x (eq-eqb _ m (lies .message))) in
-      some-came after m .1 (d, mine, rw (x, lies .frame, delivery-after) refl)
+  here = rw delivery-after refl
 
-  -- what came earlier in the round came from s too
-  module _ (round : FromSender s r m) where
-    from-sender : FromSender s after m
-    unfolding came
-    from-sender e mine here = go (ℕ-discrete (laidAt (r .layout) e .frame) f)
-      where
-        go : Dec (laidAt (r .layout) e .frame ≡ f) → Holds s after (laidAt (r .layout) e .frame)
-        go (yes same) = rw same holds-after
-        go (no other) =
-            let stays = getD-set-other (r .state .deliveries) f (laidAt (r .layout) e .frame) came-in noDelivery other in
-            let frame = round e mine (rw stays at here) in
-            record { before = frame .before; assembles = frame .assembles; same = rw stays (frame .same) }
+  -- a field in another frame counts as before, and so does not
+  others : Every (λ y. counts after y ≡ true → y .frame ≡ x′ .frame) fields
+  unfolding instances counts came statusSet
+  others = every-more _ _ other fields (chosen-none (counts r) _ fields fresh)
+    where
+      other : (y : FieldRecord) → counts r y ≡ false → counts after y ≡ true → y .frame ≡ x′ .frame
+      other y none t = go (ℕ-discrete (y .frame) (x′ .frame))
+        where
+          go : Dec (y .frame ≡ x′ .frame) → y .frame ≡ x′ .frame
+          go (yes same) = same
+          go (no away) =
+              let stays = getD-set-other (r .state .deliveries) (x′ .frame) (y .frame) came-in noDelivery away in
+              absurd (true≢false (sym (rw stays at t) ∙ none))
 
-    shows-valid : (p : ℤ) → goesValid (messageAt (s .layout) m) (stateAt (s .state) m) ≡ true
-        → seenOf (final r (deliver f true (assembled s f b) ∷ close ∷ [])) (receive m p)
-        ≡ record { answer = 0; lent = value (heldValue (messageAt (s .layout) m) (stateAt (s .state) m)) }
-    shows-valid p valid = rw delivered-node (closed-valid sender sound-after mirror m from-sender some-after p valid)
+  -- the value that s holds of m
+  abbrev v : ℤ
+  v = heldValue (messageAt (s .layout) m) (stateAt (s .state) m)
 
-    shows-invalid : (p : ℤ) → goesValid (messageAt (s .layout) m) (stateAt (s .state) m) ≡ false
-        → seenOf (final r (deliver f true (assembled s f b) ∷ close ∷ [])) (receive m p) ≡ record { answer = 22; lent = value p }
-    shows-invalid p invalid = rw delivered-node (closed-invalid sender sound-after mirror m from-sender some-after p invalid)
+  -- m goes out as valid: it is received with that value, or 21 if the receiver's filter does not pass it
+  module _ (valid : goesValid (messageAt (s .layout) m) (stateAt (s .state) m) ≡ true) where
+    pub held-received : passesNow (messageAt (r .layout) m′) (stateAt (r .state) m′) v ≡ true
+        → seenOf (afterRound r (x′ .frame) sent) (receive m′ p) ≡ sees 0 (value v)
+    held-received passes = rw delivered (closed-passed sender sound-after mirror b assembles data-after here others p valid passes)
+
+    held-stopped : passesNow (messageAt (r .layout) m′) (stateAt (r .state) m′) v ≡ false
+        → seenOf (afterRound r (x′ .frame) sent) (receive m′ p) ≡ sees 21 (value p)
+    held-stopped fails = rw delivered (closed-stopped sender sound-after mirror b assembles data-after here others p valid fails)
+
+  -- as invalid: 22, and the place stays
+  pub cleared-received : goesValid (messageAt (s .layout) m) (stateAt (s .state) m) ≡ false
+      → seenOf (afterRound r (x′ .frame) sent) (receive m′ p) ≡ sees 22 (value p)
+  cleared-received invalid = rw delivered (closed-invalid sender sound-after mirror b assembles data-after here others p invalid)
 
 -- ---- the message after a call on the sender
 
@@ -159,42 +180,38 @@ module _ {s : Node} (sender : Sound s) (m : ℕ) where
 
 -- ---- there and back
 
--- frame f of s carries message m
-module _ {s r : Node} (sender : Sound s) (receiver : Sound r) (mirror : Mirrors (s .layout) (r .layout)) (f m : ℕ)
-    (carries-it : carries (s .layout) f m ≡ true) (b : List ℕ) where
-  lies : FieldOf (s .layout) (carried (sender .layout) m f .0 carries-it .0) m f
-  lies = carried (sender .layout) m f .0 carries-it .1
-
-  -- no frame of m came to r yet in this round; p is what the caller's place held
-  module _ (fresh : noneCame r m ≡ true) (p : ℤ) where
-    -- m goes out as invalid: 22, and the place stays
-    pub invalid-received : answerOf s (assemble f b) ≡ 0 → goesValid (messageAt (s .layout) m) (stateAt (s .state) m) ≡ false
-        → seenOf (final r (deliver f true (assembled s f b) ∷ close ∷ [])) (receive m p) ≡ record { answer = 22; lent = value p }
-    invalid-received ok = shows-invalid sender receiver mirror lies b ok (none-came m fresh) p
-
-    -- a value sent and passed by the filter is received as sent
-    pub sent-received : (v : ℤ) → answerOf s (send m v) ≡ 0 → passesNow (messageAt (s .layout) m) (stateAt (s .state) m) v ≡ true
-        → answerOf (next s (send m v)) (assemble f b) ≡ 0
-        → seenOf (final r (deliver f true (assembled (next s (send m v)) f b) ∷ close ∷ [])) (receive m p)
-        ≡ record { answer = 0; lent = value v }
+module _ {s r : Node} (sender : Sound s) (receiver : Sound r) {m m′ : ℕ} {x x′ : FieldRecord} (mirror : Mirrors (s .layout) (r .layout) m m′ x x′)
+    (fresh : instances r m′ ≡ []) (b : List ℕ) (p : ℤ) where
+  -- a value sent and passed by the sender's filter
+  module _ (v : ℤ) (sent : answerOf s (send m v) ≡ 0) (passed : passesNow (messageAt (s .layout) m) (stateAt (s .state) m) v ≡ true)
+      (ok : answerOf (next s (send m v)) (assemble (x .frame) b) ≡ 0) where
+    -- and by the receiver's is received as sent
+    pub sent-received : passesNow (messageAt (r .layout) m′) (stateAt (r .state) m′) v ≡ true
+        → seenOf (afterRound r (x′ .frame) (assembled (next s (send m v)) (x .frame) b)) (receive m′ p) ≡ sees 0 (value v)
     unfolding sendOf
-    sent-received v sent passes ok =
-        let (valid, held) = passed-message sender m v sent passes in
-        rw held at (shows-valid (kept-sound sender (send m v)) receiver mirror lies b ok (none-came m fresh) p valid)
+    sent-received passes =
+        let (valid, held) = passed-message sender m v sent passed in
+        rw held at (held-received (kept-sound sender (send m v)) receiver mirror fresh b ok p valid (rw held passes))
 
-    -- sent and not passed: 22
-    pub filtered-received : (v : ℤ) → answerOf s (send m v) ≡ 0 → passesNow (messageAt (s .layout) m) (stateAt (s .state) m) v ≡ false
-        → answerOf (next s (send m v)) (assemble f b) ≡ 0
-        → seenOf (final r (deliver f true (assembled (next s (send m v)) f b) ∷ close ∷ [])) (receive m p)
-        ≡ record { answer = 22; lent = value p }
+    -- and not by the receiver's: 21
+    pub sent-stopped : passesNow (messageAt (r .layout) m′) (stateAt (r .state) m′) v ≡ false
+        → seenOf (afterRound r (x′ .frame) (assembled (next s (send m v)) (x .frame) b)) (receive m′ p) ≡ sees 21 (value p)
     unfolding sendOf
-    filtered-received v sent fails ok =
-        shows-invalid (kept-sound sender (send m v)) receiver mirror lies b ok (none-came m fresh) p (filtered-message sender m v sent fails)
+    sent-stopped fails =
+        let (valid, held) = passed-message sender m v sent passed in
+        held-stopped (kept-sound sender (send m v)) receiver mirror fresh b ok p valid (rw held fails)
 
-    -- invalidated: 22
-    pub invalidated-received : answerOf s (invalidate m) ≡ 0 → answerOf (next s (invalidate m)) (assemble f b) ≡ 0
-        → seenOf (final r (deliver f true (assembled (next s (invalidate m)) f b) ∷ close ∷ [])) (receive m p)
-        ≡ record { answer = 22; lent = value p }
-    unfolding invalidateOf
-    invalidated-received done ok =
-        shows-invalid (kept-sound sender (invalidate m)) receiver mirror lies b ok (none-came m fresh) p (invalidated-message sender m done)
+  -- sent and not passed: 22
+  pub filtered-received : (v : ℤ) → answerOf s (send m v) ≡ 0 → passesNow (messageAt (s .layout) m) (stateAt (s .state) m) v ≡ false
+      → answerOf (next s (send m v)) (assemble (x .frame) b) ≡ 0
+      → seenOf (afterRound r (x′ .frame) (assembled (next s (send m v)) (x .frame) b)) (receive m′ p) ≡ sees 22 (value p)
+  unfolding sendOf
+  filtered-received v sent fails ok =
+      cleared-received (kept-sound sender (send m v)) receiver mirror fresh b ok p (filtered-message sender m v sent fails)
+
+  -- invalidated: 22
+  pub invalidated-received : answerOf s (invalidate m) ≡ 0 → answerOf (next s (invalidate m)) (assemble (x .frame) b) ≡ 0
+      → seenOf (afterRound r (x′ .frame) (assembled (next s (invalidate m)) (x .frame) b)) (receive m′ p) ≡ sees 22 (value p)
+  unfolding invalidateOf
+  invalidated-received done ok =
+      cleared-received (kept-sound sender (invalidate m)) receiver mirror fresh b ok p (invalidated-message sender m done)

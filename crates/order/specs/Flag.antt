@@ -6,7 +6,7 @@ use mathlib.Core.List.{List, [], _∷_}
 use Prim.Native.Nat.{ℕ}
 use lib.IntN.{ℤ}
 use Rattle.store.specs.Node.{Node}
-use Rattle.order.specs.Runs.{Call, send, assemble, consumed, Seen, flag, answerOf, next}
+use Rattle.calls.specs.Contracts.{Call, send, assemble, consumed, Seen, flag, answerOf, next}
 use Rattle.order.specs.Order.{In, Before, carries}
 
 -- a call, and what it was answered
@@ -18,8 +18,8 @@ pub record Answered : Type 0 where
 abbrev pub withAnswer : Node → Call → Answered
 withAnswer n c = record { call = c; answer = answerOf n c }
 
-abbrev pub done : Call → Answered
-done c = record { call = c; answer = 0 }
+abbrev pub succeeded : Call → Answered
+succeeded c = record { call = c; answer = 0 }
 
 -- the calls of a list, one after the other from node n on, with their answers
 abbrev pub answered : Node → List Call → List Answered
@@ -28,11 +28,11 @@ answered n (c ∷ l) = withAnswer n c ∷ answered (next n c) l
 
 -- message m is sent with answer 0
 abbrev pub Sent : Node → ℕ → List Call → Type 0
-Sent n m l = (v : ℤ) × In (done (send m v)) (answered n l)
+Sent n m l = (v : ℤ) × In (succeeded (send m v)) (answered n l)
 
 -- frame f is assembled with answer 0 and later consumed, with answer 0 too
 abbrev pub GoesOut : Node → ℕ → List Call → Type 0
-GoesOut n f l = (b : List ℕ) × Before (done (assemble f b)) (done (consumed f)) (answered n l)
+GoesOut n f l = (b : List ℕ) × Before (succeeded (assemble f b)) (succeeded (consumed f)) (answered n l)
 
 -- each frame that carries message m goes out
 abbrev pub AllOut : Node → ℕ → List Call → Type 0

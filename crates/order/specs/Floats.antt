@@ -4,7 +4,7 @@ use mathlib.Core.Bool.{cond}
 use Prim.Native.Nat.{ℕ}
 use lib.IntN.{ℤ, pos}
 use Rattle.float.specs.Patterns.{aside}
-use Rattle.order.specs.Runs.{value, Seen}
+use Rattle.calls.specs.Contracts.{value, Seen}
 
 -- agreement without result: 20, and the caller's place as it was
 abbrev pub noneShown : ℤ → Seen

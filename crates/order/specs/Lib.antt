@@ -1,9 +1,12 @@
-pub mod Runs
 pub mod Order
+pub mod Runs
 pub mod Once
 pub mod Own
+pub mod Replicas
 pub mod Flag
 pub mod Mirror
 pub mod Floats
-pub mod Claims
+pub mod Deliveries
+pub mod Counting
 pub mod Example
+pub mod Claims

@@ -1,4 +1,5 @@
--- One input, one outcome: a row for each public entry point of every crate, with what its contract says of an outcome, as in its source.
+-- One input, one outcome: a row for each public entry point of every crate, with what its contract says of an outcome. Those that C links cite the
+-- relations `Does` and `Loads` themselves; of the others the row says what the source does.
 -- Assumes nothing.
 use mathlib.Core.Path.{_≡_}
 use mathlib.Core.Bool.{Bool}
@@ -19,7 +20,7 @@ use Rattle.agreement.specs.Agreement.{agreed}
 use Rattle.agreement.specs.Floats.{floatsAgreed}
 use Rattle.agreement.specs.declared.Agreed.{Agreed}
 use Rattle.filter.specs.Filter.{passes}
-use Rattle.record.specs.Records.{byteAt, bytesOf as recordBytes, frameAt as frameRecord, messageAt as messageRecord, fieldAt as fieldRecord, recordAt, pairBelow}
+use Rattle.record.specs.Records.{byteAt, recordBytes, frameAt as frameRecord, messageAt as messageRecord, fieldAt as fieldRecord, recordAt, pairBelow}
 use Rattle.ranges.specs.Ranges.{rangeFault}
 use Rattle.record.specs.Runs.{statusRun, pastEnd, meet}
 use Rattle.record.specs.declared.Frame.{Frame as FrameRecord}
@@ -78,9 +79,8 @@ use Rattle.message.specs.Fields.{stageAfter, isGone, writes}
 use Rattle.own.specs.declared.Owner.{Owner}
 use Rattle.own.specs.declared.Places.{Places}
 use Rattle.own.specs.Own.{placesOf, cellAt, Given, owns}
-use Rattle.node.specs.Calls.{left}
-use Rattle.node.specs.Load.{loadOf}
-use Rattle.order.specs.Runs.{Call, Seen, Memory, Does}
+use Rattle.closing.specs.Closing.{closeOf}
+use Rattle.calls.specs.Contracts.{Call, Seen, Memory, Does, Loads}
 
 -- what a contract says of an outcome holds of one at most
 abbrev pub Single : {A : Type 0} → (A → Type 0) → Type 0
@@ -141,7 +141,8 @@ pub record Once : Type 0 where
   -- store
   pub no-message : Single (λ (r : Message). r ≡ noMessage)
   pub no-state : Single (λ (r : MessageState). r ≡ noState)
-  pub counts : (b : List ℕ) → Single (λ (r : Counts). r ≡ countsOf (layoutOf b))
+  pub smaller : (a b : ℕ) → Single (λ (r : ℕ). r ≡ min a b)
+  pub counts-of : (b : List ℕ) → Single (λ (r : Counts). r ≡ countsOf (layoutOf b))
   pub has-frame : (b : List ℕ) (f : ℕ) → Single (λ (r : Bool). r ≡ ltb f (frameCount (layoutOf b)))
   pub has-message : (b : List ℕ) (m : ℕ) → Single (λ (r : Bool). r ≡ ltb m (messageCount (layoutOf b)))
   pub frame-at : (b : List ℕ) (f : ℕ) → Single (λ (r : Frame). r ≡ frameAt (layoutOf b) f)
@@ -191,8 +192,10 @@ pub record Once : Type 0 where
   pub places-of : (b : List ℕ) (o : Owner) → Single (λ (r : Places). (r ≡ placesOf (layoutOf b) o) × (r .end ≤ 128))
   pub cell-at : (b : List ℕ) (o : Owner) (i : ℕ) → Single (λ (r : ℕ). (r ≡ cellAt (layoutOf b) o i) × Given o r)
   pub own : (b : List ℕ) (o : Owner) (d : ℕ) → Single (λ (r : Bool). r ≡ owns (layoutOf b) o d)
-  -- node: the eight calls, and loading
+  -- closing
+  pub close-round : (b : List ℕ) → Single (λ (e : List ℕ). Memory e × (nodeOf e ≡ nodeWith (nodeOf b) (closeOf (nodeOf b))))
+  -- mondgurt, and node with the same outcomes: the eight calls, and loading
   pub call : (b : List ℕ) (c : Call) → Single (λ (o : Ended). Memory (o .memory) × Does b c (o .seen) (o .memory))
-  pub load : (b file : List ℕ) → Single (λ (o : Returned). Memory (o .memory) × (left (o .answer) (o .memory) ≡ loadOf (nodeOf b) file))
+  pub load : (b file : List ℕ) → Single (λ (o : Returned). Memory (o .memory) × Loads b file (o .answer) (o .memory))
   -- listing
   pub list-file : (file out : List ℕ) → Single (λ (o : Returned). Put out (o .memory) 0 (o .answer) (listing file) 4096)

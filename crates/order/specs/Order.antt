@@ -9,8 +9,8 @@ use Rattle.record.specs.declared.Field.{Field as FieldRecord}
 use Rattle.store.specs.Node.{Layout, Node}
 use Rattle.own.specs.declared.Owner.{Owner}
 use Rattle.own.specs.Own.{fieldsOf}
-use Rattle.order.specs.Runs.{Call, send, invalidate, assemble, consumed, readFlag, deliver, close, receive}
-use Rattle.order.specs.Runs.{Seen, seenOf, next, final, Memory, Does}
+use Rattle.calls.specs.Contracts.{Call, send, invalidate, assemble, consumed, readFlag, deliver, close, receive}
+use Rattle.calls.specs.Contracts.{Seen, seenOf, next, final, Memory, Does}
 
 -- ---- dependence
 
@@ -77,13 +77,13 @@ pub data Before {A : Type 0} (a b : A) : List A → Type 0 where
   later : {c : A} {l : List A} → Before a b l → Before a b (c ∷ l)
 
 -- no two calls of l have the same number
-abbrev pub Distinct : List Numbered → Type 0
-Distinct l = (a b : Numbered) → Before a b l → a .number ≡ b .number → ⊥
+abbrev pub OwnNumbers : List Numbered → Type 0
+OwnNumbers l = (a b : Numbered) → Before a b l → a .number ≡ b .number → ⊥
 
 -- l₂ has the calls of l₁ in another order, in which only calls that do not depend on each other have changed places
 pub record Reordered (layout : Layout) (l₁ l₂ : List Numbered) : Type 0 where
-  pub distinct₁ : Distinct l₁
-  pub distinct₂ : Distinct l₂
+  pub distinct₁ : OwnNumbers l₁
+  pub distinct₂ : OwnNumbers l₂
   pub all₁ : (a : Numbered) → In a l₁ → In a l₂
   pub all₂ : (a : Numbered) → In a l₂ → In a l₁
   pub swapped : (a b : Numbered) → Before a b l₁ → Before b a l₂ → dependent layout (a .call) (b .call) ≡ false

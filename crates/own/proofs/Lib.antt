@@ -4,3 +4,4 @@ pub mod Owners
 pub mod Stretches
 pub mod Starts
 pub mod Claims
+pub mod Ahead

@@ -17,7 +17,7 @@ use Rattle.record.specs.Numbers.{tally}
 use Rattle.record.specs.Records as records
 use Rattle.record.specs.declared.Field.{Field as FieldRecord}
 use Rattle.record.proofs.Tests.{meanings}
-use Rattle.layout.specs.Verdict.{isFieldOf, fieldsOf}
+use Rattle.layout.specs.Verdict.{isFieldOf, fieldsAmong}
 use Rattle.layout.specs.WellLaid.{Below, theField, itsMessage, itsFrame, WellLaid}
 use Rattle.layout.proofs.Accepted.{kinds, none-before}
 use Rattle.layout.proofs.Node.{few-frames, few-messages, together, frames-rise, message-placed, status-placed, own-disjoint, fields-separate}
@@ -41,7 +41,7 @@ use Rattle.start.specs.Start.{
   startLayout,
 }
 use Rattle.start.proofs.Tables.{length-table, table-at}
-use Rattle.start.proofs.Index.{run-ends, start-index-length, has-place, run-lies, run-rises}
+use Rattle.start.proofs.Index.{run-ends, start-index-length, none-listed, has-place, run-lies, run-rises}
 use Rattle.message.specs.Fields.{statusPlaces}
 use Rattle.own.specs.SoundLayout.{
   SoundFrame,
@@ -124,6 +124,10 @@ module _ (s : List ℕ) (F M D : ℕ) where
         let inside : m < 32 = omega (arith, few-messages s F M D w) in
         rw (table-at (startMessageOrNone s F M D) noMessage 32 m inside, lt-ltb m M l)
 
+    no-field : (d : ℕ) → D ≤ d → laidAt layout d ≡ notLaid
+    unfolding startLayout startFields startLaid
+    no-field d l = table-past (startLaid s (F + M) D) notLaid 128 d (rw (le-leb D d l) refl)
+
     laid-at : (d : ℕ) → d < D → laidAt layout d ≡ field d
     unfolding startLayout startFields startLaid
     laid-at d l =
@@ -179,7 +183,7 @@ module _ (s : List ℕ) (F M D : ℕ) where
     -- ---- a message
 
     -- the message's fields in the file are those in the node
-    counted : (m : ℕ) → fieldsOf s m (F + M + D) ≡ count m
+    counted : (m : ℕ) → fieldsAmong s m (F + M + D) ≡ count m
     unfolding isFieldOf records.isField
     counted m =
         let all = tally-from (isFieldOf s m) (isInstance s (F + M) m) (F + M) D (λ k l. rw (w .fields k l .kind)) in
@@ -257,17 +261,17 @@ module _ (s : List ℕ) (F M D : ℕ) where
           (eq-or-lt-of-le (in-run .0))
 
       -- the bits of the field lie where the file says
-      message-places : messagePlaces layout (field d) ≡ laid.messagePlaces (isBig d) (itsMessage s F M (field d)) (field d)
+      message-places : messagePlaces layout (field d) ≡ laid.recordPlaces (isBig d) (itsMessage s F M (field d)) (field d)
       unfolding startMessage
       message-places = rw (its-message, its-frame) (message-placed s F M D w d l)
 
-      status-places : itsStatusPlaces layout (field d) ≡ laid.statusPlaces (isBig d) (field d)
+      status-places : itsStatusPlaces layout (field d) ≡ laid.recordStatus (isBig d) (field d)
       unfolding statusPlaces places bitPlaces
       status-places = rw its-frame (go (field d .status) refl (w .fields d l .status))
         where
           go :
               (k : ℕ) → field d .status ≡ k → k ≤ 1
-              → statusPlaces (itsFrame s F M (field d) .length) (frameCell (field d .frame)) (field d) ≡ laid.statusPlaces (isBig d) (field d)
+              → statusPlaces (itsFrame s F M (field d) .length) (frameCell (field d .frame)) (field d) ≡ laid.recordStatus (isBig d) (field d)
           go zero absent few = rw absent refl
           go (suc zero) present few = rw present (rw present at (status-placed s F M D w d l present))
           go (suc (suc k)) more few = absurd (omega arith)
@@ -320,6 +324,8 @@ module _ (s : List ℕ) (F M D : ℕ) where
           messages = λ m l. rw (message-at m l) (sound-message m l);
           no-messages = no-message;
           fields = λ d l. rw (laid-at d l) (sound-field d l);
+          no-fields = no-field;
+          none-listed = none-listed s (F + M) D (w .fields-few);
           run = λ m d l. run-names m l d;
           rising = λ d e h l. rw (laid-at d (omega arith), laid-at e l) (frames-rise s F M D w d e h l);
           frame-run = λ f i l. run-carries f l i;

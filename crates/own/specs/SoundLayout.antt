@@ -13,7 +13,7 @@ use Rattle.ranges.specs.Ranges.{usesX1, usesX2, isMask}
 use Rattle.record.specs.declared.Field.{Field as FieldRecord}
 use Rattle.store.specs.declared.Frame.{Frame}
 use Rattle.store.specs.declared.Message.{Message}
-use Rattle.store.specs.Node.{Layout, isSigned, isFloat, isSent, isBig, noFrame, noMessage, frameAt, messageAt, laidAt, listedAt}
+use Rattle.store.specs.Node.{Layout, isSigned, isFloat, isSent, isBig, noFrame, noMessage, notLaid, frameAt, messageAt, laidAt, listedAt}
 use Rattle.message.specs.Fields.{statusPlaces}
 
 -- a frame is as its record says, and has its fields in one run of the index
@@ -83,7 +83,7 @@ pub record Apart (l : Layout) (x y : FieldRecord) : Type 0 where
   pub status-bits : Disjoint (itsStatusPlaces l x) (messagePlaces l y)
   pub status-status : Disjoint (itsStatusPlaces l x) (itsStatusPlaces l y)
 
--- a layout with a cell for each place, whose frames, messages and fields are sound; past their numbers there is no frame and no message
+-- a layout with a cell for each place, whose frames, messages and fields are sound; past their numbers there is none, and the index lists none
 pub record SoundLayout (l : Layout) : Type 0 where
   pub frame-cells : length (l .frames) ≡ 32
   pub message-cells : length (l .messages) ≡ 32
@@ -97,6 +97,8 @@ pub record SoundLayout (l : Layout) : Type 0 where
   pub messages : (m : ℕ) → m < l .message-number → SoundMessage l (messageAt l m)
   pub no-messages : (m : ℕ) → l .message-number ≤ m → messageAt l m ≡ noMessage
   pub fields : (d : ℕ) → d < l .field-number → SoundField l d (laidAt l d)
+  pub no-fields : (d : ℕ) → l .field-number ≤ d → laidAt l d ≡ notLaid
+  pub none-listed : (i : ℕ) → l .field-number ≤ i → listedAt l i ≡ 0
   -- every cell of a message's run names it, and its frames rise
   pub run : (m d : ℕ) → m < l .message-number → messageAt l m .first ≤ d → d < messageAt l m .first + messageAt l m .fields → laidAt l d .message ≡ m
   pub rising : (d e : ℕ) → d < e → e < l .field-number → laidAt l d .message ≡ laidAt l e .message → laidAt l d .frame < laidAt l e .frame

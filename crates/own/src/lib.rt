@@ -1,6 +1,6 @@
 // Whose fields are whose: where a message's and a frame's fields are found, and which cells there are theirs, on memory of any content.
 ghost use mathlib.Core.Path.{_≡_};
-ghost use Prim.Native.Nat.{_<_, _≤_, min};
+ghost use Prim.Native.Nat.{_<_, _≤_};
 ghost use lib.ListN.{length};
 ghost use Rattle.store.specs.Node.{nodeSize, layoutOf};
 ghost use Rattle.own.specs.Own.{InMemory, placesOf, cellAt, Given, owns};
@@ -17,12 +17,6 @@ pub struct Places {
     pub end: usize,
 }
 
-fn least(a: usize, b: usize) -> usize
-    ensures { λ r. ⌜ r ≡ min a b ⌝ }
-{
-    if a <= b { a } else { b }
-}
-
 pub fn places_of(node: &[u8], owner: Owner) -> Places
     requires { ⌜ (InMemory owner) × (length (now node) ≡ nodeSize) ⌝ }
     ensures { λ r. ⌜ (r ≡ placesOf (layoutOf (now (node .entry))) owner) × (r .end ≤ 128) ⌝ }
@@ -33,7 +27,7 @@ pub fn places_of(node: &[u8], owner: Owner) -> Places
             let from = g.first as usize;
             Places {
                 from,
-                end: least(128, from + least(g.fields as usize, 8)),
+                end: store::smaller(128, from + store::smaller(g.fields as usize, 8)),
             }
         }
         Owner::Frame(f) => {
@@ -41,7 +35,7 @@ pub fn places_of(node: &[u8], owner: Owner) -> Places
             let from = h.first as usize;
             Places {
                 from,
-                end: least(128, from + h.fields as usize),
+                end: store::smaller(128, from + h.fields as usize),
             }
         }
     }

@@ -13,7 +13,7 @@ use lib.ListN.{length, getD, length-set}
 use lib.Pow.{mod-pow-add}
 use lib.Seq.{ext-getD, getD-set-other, getD-set-same, set-out}
 use Rattle.whole.specs.Whole.{Bytes}
-use Rattle.packing.specs.Places.{bitOf, withBit, bitAt, putBit, packed, unpacked, Inside, Apart, Distinct, Disjoint, Agree}
+use Rattle.packing.specs.Places.{bitOf, withBit, bitAt, putBit, packed, unpacked, Inside, Outside, Distinct, Disjoint, Agree}
 use Rattle.packing.proofs.Bit.{bit-below, bit-zero, bit-suc, bit-same, bit-other, with-exchange, with-below}
 
 -- ---- one bit of a frame
@@ -123,7 +123,7 @@ packed-bytes [] v f h = h
 packed-bytes (p ∷ ps) v f h = packed-bytes ps (v / 2) (putBit f p (v % 2)) (put-bytes f p (v % 2) (parity-below v) h)
 
 -- every other bit is kept
-pub packed-other : (q : ℕ) (ps : List ℕ) (v : ℕ) (f : List ℕ) → Apart q ps → bitAt (packed ps v f) q ≡ bitAt f q
+pub packed-other : (q : ℕ) (ps : List ℕ) (v : ℕ) (f : List ℕ) → Outside q ps → bitAt (packed ps v f) q ≡ bitAt f q
 unfolding packed
 packed-other q [] v f h = refl
 packed-other q (p ∷ ps) v f h =
@@ -170,7 +170,7 @@ packed-lowest (p ∷ ps) v f =
 
 -- ---- two placements that share no bit
 
-packed-put : (ps : List ℕ) (v : ℕ) (f : List ℕ) (q b : ℕ) → b < 2 → Apart q ps → packed ps v (putBit f q b) ≡ putBit (packed ps v f) q b
+packed-put : (ps : List ℕ) (v : ℕ) (f : List ℕ) (q b : ℕ) → b < 2 → Outside q ps → packed ps v (putBit f q b) ≡ putBit (packed ps v f) q b
 unfolding packed
 packed-put [] v f q b l h = refl
 packed-put (p ∷ ps) v f q b l h =

@@ -1,4 +1,5 @@
 pub mod Bit
+pub mod Claims
 pub mod Field
 pub mod Frame
 pub mod Negation

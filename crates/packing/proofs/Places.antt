@@ -1,5 +1,5 @@
 -- Where the bits of a message lie: the place of each message bit, in both orders; the places of a run are as many as its bits, lie inside the
--- frame and differ; two runs share a place exactly if they share a frame bit. All of it follows from two facts: each frame bit has a place of its
+-- frame and differ. All of it follows from two facts: each frame bit has a place of its
 -- own, and each message bit a frame bit of its own.
 -- Assumes nothing.
 use mathlib.Core.Path.{_≡_, refl, sym, ap, _∙_}
@@ -11,7 +11,7 @@ use native.Mathlib.Omega.{arith}
 use lib.Dec.{leb}
 use lib.ListN.{length, getD}
 use borrow.Author.Tests.{leb-true}
-use Rattle.packing.specs.Places.{place, placeOf, frameBit, bitPlaces, places, inFrame, placesIn, Inside, Apart, Distinct, Disjoint}
+use Rattle.packing.specs.Places.{place, placeOf, frameBit, bitPlaces, places, inFrame, placesIn, Inside, Outside, Distinct}
 
 -- ---- a frame bit's place, and a message bit's frame bit
 
@@ -68,20 +68,13 @@ module _ (big : Bool) (start w : ℕ) where
   bits-inside m j zero h l = tt
   bits-inside m j (suc n) h l = (message-place-below big m start w j (omega arith) l, bits-inside m (j + 1) n (omega arith) l)
 
-  bits-apart : (i j n : ℕ) → ((k : ℕ) → j ≤ k → k < j + n → i ≡ frameBit big start w k → ⊥) → Apart (placeOf big i) (bitPlaces big start w j n)
+  bits-apart : (i j n : ℕ) → ((k : ℕ) → j ≤ k → k < j + n → i ≡ frameBit big start w k → ⊥) → Outside (placeOf big i) (bitPlaces big start w j n)
   unfolding bitPlaces
   bits-apart i j zero h = tt
   bits-apart i j (suc n) h = (
     λ e. h j (omega arith) (omega arith) (place-own big i (frameBit big start w j) e),
     bits-apart i (j + 1) n (λ k l m. h k (omega arith) (omega arith)),
   )
-
-  bits-disjoint : (qs : List ℕ) (j n : ℕ) → ((k : ℕ) → j ≤ k → k < j + n → Apart (placeOf big (frameBit big start w k)) qs)
-      → Disjoint (bitPlaces big start w j n) qs
-  unfolding bitPlaces
-  bits-disjoint qs j zero h = tt
-  bits-disjoint qs j (suc n) h =
-      (h j (omega arith) (omega arith), bits-disjoint qs (j + 1) n (λ k l m. h k (omega arith) (omega arith)))
 
   bits-distinct : (j n : ℕ) → j + n ≤ w → Distinct (bitPlaces big start w j n)
   unfolding bitPlaces
@@ -122,42 +115,10 @@ unfolding places
 places-distinct big start w = bits-distinct big start w 0 w (omega arith)
 
 -- a frame bit outside the run is none of its places
-pub places-apart : (big : Bool) (i start w : ℕ) → (i < start) ⊎ (start + w ≤ i) → Apart (placeOf big i) (places big start w)
+pub places-apart : (big : Bool) (i start w : ℕ) → (i < start) ⊎ (start + w ≤ i) → Outside (placeOf big i) (places big start w)
 unfolding places
 places-apart big i start w h =
     bits-apart big start w i 0 w (λ k l m e. let at = frame-bit-inside big start w k (omega arith) in ⊎-elim (λ b. omega arith) (λ b. omega arith) h)
-
--- two runs that do not meet share no place
-pub places-disjoint : (big : Bool) (start w from u : ℕ) → (start + w ≤ from) ⊎ (from + u ≤ start)
-    → Disjoint (places big start w) (places big from u)
-unfolding places
-places-disjoint big start w from u h = bits-disjoint big start w (places big from u) 0 w apart
-  where
-    apart : (k : ℕ) → 0 ≤ k → k < 0 + w → Apart (placeOf big (frameBit big start w k)) (places big from u)
-    apart k l m =
-        let at = frame-bit-inside big start w k (omega arith) in
-        places-apart big (frameBit big start w k) from u (⊎-elim (λ b. inl (omega arith)) (λ b. inr (omega arith)) h)
-
--- disjoint lists have no equal elements
-apart-at : (q : ℕ) (ps : List ℕ) (k : ℕ) → Apart q ps → k < length ps → q ≡ getD ps k 0 → ⊥
-apart-at q [] k a h e = omega arith
-apart-at q (p ∷ ps) zero a h e = a .0 e
-apart-at q (p ∷ ps) (suc k) a h e = apart-at q ps k (a .1) (omega arith) e
-
-disjoint-at : (ps qs : List ℕ) (j k : ℕ) → Disjoint ps qs → j < length ps → k < length qs → getD ps j 0 ≡ getD qs k 0 → ⊥
-disjoint-at [] qs j k d h l e = omega arith
-disjoint-at (p ∷ ps) qs zero k d h l e = apart-at p qs k (d .0) l e
-disjoint-at (p ∷ ps) qs (suc j) k d h l e = disjoint-at ps qs j k (d .1) (omega arith) l e
-
--- two runs that share a frame bit share its place
-pub places-meet : (big : Bool) (i start w from u : ℕ) → (start ≤ i) × (i < start + w) → (from ≤ i) × (i < from + u)
-    → Disjoint (places big start w) (places big from u) → ⊥
-places-meet big i start w from u h l d =
-    let one = message-bit big start w i (h .0) (h .1) in
-    let other = message-bit big from u i (l .0) (l .1) in
-    disjoint-at (places big start w) (places big from u) (one .0) (other .0) d
-    (rw places-length (one .1)) (rw places-length (other .1))
-    (places-at big start w (one .0) (one .1) ∙ ap (placeOf big) (sym (one .2) ∙ other .2) ∙ sym (places-at big from u (other .0) (other .1)))
 
 -- ---- the places of a message in a frame
 
@@ -190,6 +151,3 @@ module _ (n : ℕ) (big : Bool) (start w : ℕ) where
 
   pub placesIn-distinct : Distinct (placesIn n big start w)
   placesIn-distinct = either Distinct tt (λ h. places-distinct big start w)
-
-  pub placesIn-length : length (placesIn n big start w) ≤ 32
-  placesIn-length = either (λ (ps : List ℕ). length ps ≤ 32) (omega arith) (λ h. rw places-length (h .0))

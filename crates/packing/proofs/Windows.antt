@@ -16,7 +16,7 @@ use lib.Pow.{high-ones, pow-add, pow-mono, pow-pos, shl-exact, shl-shr, shr-lt, 
 use lib.Seq.{ext-getD, getD-set-other, getD-set-same, getD-take, set-getD, set-out}
 use Rattle.whole.specs.Whole.{Bytes}
 use Rattle.packing.specs.Places.{bitOf, bitAt, placeOf, frameBit, bitPlaces, places, inFrame, placesIn, packed, unpacked, Inside}
-use Rattle.packing.specs.Window.{byteOf, windowOf, withWindow, replaced, withReplaced, lowBit, swapped, inOrder}
+use Rattle.packing.specs.Window.{windowByte, windowOf, withWindow, replaced, withReplaced, lowBit, swapped, inOrder}
 use Rattle.packing.proofs.Bit.{bit-low, bit-high, bit-lowest, same-bits}
 use Rattle.packing.proofs.Frame.{packed-length, packed-bytes, packed-bit, packed-other, lowest}
 use Rattle.packing.proofs.Places.{frame-bit-inside, message-bit, places-at, places-length, places-inside, places-distinct, places-apart}
@@ -121,19 +121,19 @@ set-bytes f i x b h k = go (ℕ-discrete k i) (decLt i (length f))
     go (yes e) (no o) = rw (set-out f i x (omega arith)) (b k)
 
 module _ (big : Bool) (first past : ℕ) where
-  byte-own : (d e : ℕ) → first + d < past → first + e < past → byteOf big first past d ≡ byteOf big first past e → d ≡ e
-  unfolding byteOf
+  byte-own : (d e : ℕ) → first + d < past → first + e < past → windowByte big first past d ≡ windowByte big first past e → d ≡ e
+  unfolding windowByte
   byte-own d e h l q = own big q
     where
-      own : (b : Bool) → byteOf b first past d ≡ byteOf b first past e → d ≡ e
+      own : (b : Bool) → windowByte b first past d ≡ windowByte b first past e → d ≡ e
       own false q = omega arith
       own true q = omega arith
 
-  byte-inside : (d n : ℕ) → first + d < past → past ≤ n → byteOf big first past d < n
-  unfolding byteOf
+  byte-inside : (d n : ℕ) → first + d < past → past ≤ n → windowByte big first past d < n
+  unfolding windowByte
   byte-inside d n h l = inside big
     where
-      inside : (b : Bool) → byteOf b first past d < n
+      inside : (b : Bool) → windowByte b first past d < n
       inside false = omega arith
       inside true = omega arith
 
@@ -142,7 +142,7 @@ module _ (big : Bool) (first past : ℕ) where
   window-below f b d zero = omega arith
   window-below f b d (suc n) =
       let p : 2 ^ (suc n * 8) ≡ 2 ^ (n * 8) * 256 = ap (λ (m : ℕ). 2 ^ m) (omega arith) ∙ pow-add 2 (n * 8) 8 in
-      omega (arith, window-below f b (d + 1) n, b (byteOf big first past d))
+      omega (arith, window-below f b (d + 1) n, b (windowByte big first past d))
 
   pub window-room : (f : List ℕ) → Bytes f → (d n k : ℕ) → n ≤ k → windowOf big first past f d n < 2 ^ (k * 8)
   window-room f b d n k h =
@@ -151,7 +151,7 @@ module _ (big : Bool) (first past : ℕ) where
 
   -- a turn of the code that reads them, from the highest on
   pub read-turn : (f : List ℕ) (d n : ℕ) → 0 < d → d ≤ n
-      → windowOf big first past f d (n - d) * 256 + getD f (byteOf big first past (d - 1)) 0 ≡ windowOf big first past f (d - 1) (n - (d - 1))
+      → windowOf big first past f d (n - d) * 256 + getD f (windowByte big first past (d - 1)) 0 ≡ windowOf big first past f (d - 1) (n - (d - 1))
   unfolding windowOf
   read-turn f d n h l =
       let e : n - (d - 1) ≡ suc (n - d) = omega arith in
@@ -160,7 +160,7 @@ module _ (big : Bool) (first past : ℕ) where
 
   -- and of the code that reads eight of them, from the lowest on
   pub read-next : (f : List ℕ) (d n : ℕ)
-      → windowOf big first past f d n + getD f (byteOf big first past (d + n)) 0 * 2 ^ (n * 8) ≡ windowOf big first past f d (suc n)
+      → windowOf big first past f d n + getD f (windowByte big first past (d + n)) 0 * 2 ^ (n * 8) ≡ windowOf big first past f d (suc n)
   unfolding windowOf
   read-next f d zero = let e : d + 0 ≡ d = omega arith in rw e (omega arith)
   read-next f d (suc n) =
@@ -169,24 +169,24 @@ module _ (big : Bool) (first past : ℕ) where
       rw (e, p, ← mul-assoc _ (2 ^ (n * 8)) 256) (omega (arith, read-next f (d + 1) n))
 
   -- the number does not depend on another byte
-  window-other : (f : List ℕ) (r x d n : ℕ) → ((e : ℕ) → d ≤ e → e < d + n → byteOf big first past e ≡ r → ⊥)
+  window-other : (f : List ℕ) (r x d n : ℕ) → ((e : ℕ) → d ≤ e → e < d + n → windowByte big first past e ≡ r → ⊥)
       → windowOf big first past (set f r x) d n ≡ windowOf big first past f d n
   unfolding windowOf
   window-other f r x d zero o = refl
   window-other f r x d (suc n) o =
       rw (
         window-other f r x (d + 1) n (λ e h l. o e (omega arith) (omega arith)),
-        getD-set-other f r (byteOf big first past d) x 0 (o d (omega arith) (omega arith)),
+        getD-set-other f r (windowByte big first past d) x 0 (o d (omega arith) (omega arith)),
       )
 
   -- a turn of the code that changes them, from the lowest on
   pub replaced-step : (f : List ℕ) (d n m y : ℕ) → Bytes f → first + (d + suc n) ≤ past → bitAnd y m ≡ y →
-      let r = byteOf big first past d in
+      let r = windowByte big first past d in
       withReplaced big first past d (suc n) m y f
       ≡ withReplaced big first past (d + 1) n (m / 256) (y / 256) (set f r (replaced (getD f r 0) (m % 256) (y % 256)))
   unfolding withReplaced withWindow windowOf
   replaced-step f d n m y b w i =
-      let r = byteOf big first past d in
+      let r = windowByte big first past d in
       let rest = windowOf big first past f (d + 1) n in
       let x = getD f r 0 in
       let new = replaced x (m % 256) (y % 256) in
@@ -201,13 +201,13 @@ module _ (big : Bool) (first past : ℕ) where
   unfolding withReplaced withWindow replaced
   replaced-none f b d zero w = refl
   replaced-none f b d (suc n) w =
-      let r = byteOf big first past d in
+      let r = windowByte big first past d in
       let kept : replaced (getD f r 0) 0 0 ≡ getD f r 0 = rw and-zero-r (omega arith) in
       replaced-step f d n 0 0 b w refl ∙ rw (kept, set-getD f r 0) (replaced-none f b (d + 1) n (omega arith))
 
   -- bit m of the number is bit m % 8 of its byte m / 8
   window-bit : (f : List ℕ) → Bytes f → (d n m : ℕ) → m < n * 8
-      → bitOf (windowOf big first past f d n) m ≡ bitOf (getD f (byteOf big first past (d + m / 8)) 0) (m % 8)
+      → bitOf (windowOf big first past f d n) m ≡ bitOf (getD f (windowByte big first past (d + m / 8)) 0) (m % 8)
   unfolding windowOf
   window-bit f b d zero m h = absurd (omega arith)
   window-bit f b d (suc n) m h = go (decLt m 8) (λ l. window-bit f b (d + 1) n (m - 8) l)
@@ -216,11 +216,11 @@ module _ (big : Bool) (first past : ℕ) where
       rest = windowOf big first past f (d + 1) n
 
       lowest : ℕ
-      lowest = getD f (byteOf big first past d) 0
+      lowest = getD f (windowByte big first past d) 0
 
       go : Dec (m < 8)
-          → (m - 8 < n * 8 → bitOf rest (m - 8) ≡ bitOf (getD f (byteOf big first past (d + 1 + (m - 8) / 8)) 0) ((m - 8) % 8))
-          → bitOf (rest * 256 + lowest) m ≡ bitOf (getD f (byteOf big first past (d + m / 8)) 0) (m % 8)
+          → (m - 8 < n * 8 → bitOf rest (m - 8) ≡ bitOf (getD f (windowByte big first past (d + 1 + (m - 8) / 8)) 0) ((m - 8) % 8))
+          → bitOf (rest * 256 + lowest) m ≡ bitOf (getD f (windowByte big first past (d + m / 8)) 0) (m % 8)
       go (yes l) i =
           let e : d + m / 8 ≡ d = omega arith in
           let k : m % 8 ≡ m = omega arith in
@@ -239,32 +239,32 @@ module _ (big : Bool) (first past : ℕ) where
   put-bytes : (d n y : ℕ) (f : List ℕ) → Bytes f → Bytes (withWindow big first past d n y f)
   unfolding withWindow
   put-bytes d zero y f b = b
-  put-bytes d (suc n) y f b = put-bytes (d + 1) n (y / 256) _ (set-bytes f (byteOf big first past d) (y % 256) b (omega arith))
+  put-bytes d (suc n) y f b = put-bytes (d + 1) n (y / 256) _ (set-bytes f (windowByte big first past d) (y % 256) b (omega arith))
 
   -- a byte that is none of them stays
-  put-other : (d n y r : ℕ) (f : List ℕ) → ((e : ℕ) → d ≤ e → e < d + n → r ≡ byteOf big first past e → ⊥)
+  put-other : (d n y r : ℕ) (f : List ℕ) → ((e : ℕ) → d ≤ e → e < d + n → r ≡ windowByte big first past e → ⊥)
       → getD (withWindow big first past d n y f) r 0 ≡ getD f r 0
   unfolding withWindow
   put-other d zero y r f o = refl
   put-other d (suc n) y r f o =
       put-other (d + 1) n (y / 256) r _ (λ e h l. o e (omega arith) (omega arith))
-      ∙ getD-set-other f (byteOf big first past d) r _ 0 (o d (omega arith) (omega arith))
+      ∙ getD-set-other f (windowByte big first past d) r _ 0 (o d (omega arith) (omega arith))
 
   -- byte d + e of them becomes byte e of the number
   put-bit : (d n y e t : ℕ) (f : List ℕ) → first + (d + n) ≤ past → past ≤ length f → e < n → t < 8
-      → bitOf (getD (withWindow big first past d n y f) (byteOf big first past (d + e)) 0) t ≡ bitOf y (e * 8 + t)
+      → bitOf (getD (withWindow big first past d n y f) (windowByte big first past (d + e)) 0) t ≡ bitOf y (e * 8 + t)
   unfolding withWindow
   put-bit d zero y e t f w i h l = absurd (omega arith)
   put-bit d (suc n) y zero t f w i h l =
-      let g = set f (byteOf big first past d) (y % 256) in
+      let g = set f (windowByte big first past d) (y % 256) in
       let z : d + 0 ≡ d = omega arith in
       let m : 0 * 8 + t ≡ t = omega arith in
       rw (
         z,
         m,
-        put-other (d + 1) n (y / 256) (byteOf big first past d) g
+        put-other (d + 1) n (y / 256) (windowByte big first past d) g
             (λ e p q o. omega (arith, byte-own d e (omega arith) (omega arith) o)),
-        getD-set-same f (byteOf big first past d) (y % 256) 0 (byte-inside d (length f) (omega arith) i),
+        getD-set-same f (windowByte big first past d) (y % 256) 0 (byte-inside d (length f) (omega arith) i),
       )
       (bit-lowest 8 y t l)
   put-bit d (suc n) y (suc e) t f w i h l =
@@ -278,7 +278,7 @@ module _ (big : Bool) (first past : ℕ) where
 -- the number in big order is the number in little order with its bytes swapped
 swapped-window : (first past : ℕ) (f : List ℕ) → Bytes f → (d n : ℕ) → past ≡ first + (d + n)
     → swapped n (windowOf false first past f d n) (windowOf true first past f n d) ≡ windowOf true first past f 0 (d + n)
-unfolding swapped windowOf byteOf
+unfolding swapped windowOf windowByte
 swapped-window first past f b d zero e = let z : d + 0 ≡ d = omega arith in rw z
 swapped-window first past f b d (suc n) e =
     let s : d + suc n ≡ suc d + n = omega arith in
@@ -311,8 +311,8 @@ bitNumber true first past i = past * 8 - 1 - i
 
 bit-place : (big : Bool) (first past i : ℕ) → first * 8 ≤ i → i < past * 8 →
     let m = bitNumber big first past i in
-    (m < (past - first) * 8) × (byteOf big first past (m / 8) ≡ placeOf big i / 8) × (m % 8 ≡ placeOf big i % 8)
-unfolding bitNumber byteOf placeOf
+    (m < (past - first) * 8) × (windowByte big first past (m / 8) ≡ placeOf big i / 8) × (m % 8 ≡ placeOf big i % 8)
+unfolding bitNumber windowByte placeOf
 bit-place false first past i h l = (omega arith, omega arith, omega arith)
 bit-place true first past i h l = (omega arith, omega arith, omega arith)
 
@@ -336,11 +336,11 @@ module _ (big : Bool) (first past i : ℕ) (h : first * 8 ≤ i) (l : i < past *
 -- a byte outside the window keeps its bits
 kept-bit : (big : Bool) (first past i y : ℕ) (f : List ℕ) → (i < first * 8) ⊎ (past * 8 ≤ i)
     → bitAt (withWindow big first past 0 (past - first) y f) (placeOf big i) ≡ bitAt f (placeOf big i)
-unfolding bitAt placeOf byteOf
+unfolding bitAt placeOf windowByte
 kept-bit big first past i y f o =
     ap (λ (x : ℕ). bitOf x (placeOf big i % 8)) (put-other big first past 0 (past - first) y (placeOf big i / 8) f (λ e h l. outside big e o l))
   where
-    outside : (b : Bool) (e : ℕ) → (i < first * 8) ⊎ (past * 8 ≤ i) → e < 0 + (past - first) → placeOf b i / 8 ≡ byteOf b first past e → ⊥
+    outside : (b : Bool) (e : ℕ) → (i < first * 8) ⊎ (past * 8 ≤ i) → e < 0 + (past - first) → placeOf b i / 8 ≡ windowByte b first past e → ⊥
     outside false e (inl o) l q = omega arith
     outside false e (inr o) l q = omega arith
     outside true e (inl o) l q = omega arith

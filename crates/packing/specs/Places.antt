@@ -79,19 +79,19 @@ Inside n [] = Unit {0}
 Inside n (p ∷ ps) = (p < n * 8) × Inside n ps
 
 -- none of them is q
-abbrev pub Apart : ℕ → List ℕ → Type 0
-Apart q [] = Unit {0}
-Apart q (p ∷ ps) = (q ≡ p → ⊥) × Apart q ps
+abbrev pub Outside : ℕ → List ℕ → Type 0
+Outside q [] = Unit {0}
+Outside q (p ∷ ps) = (q ≡ p → ⊥) × Outside q ps
 
 -- no place occurs twice
 abbrev pub Distinct : List ℕ → Type 0
 Distinct [] = Unit {0}
-Distinct (p ∷ ps) = Apart p ps × Distinct ps
+Distinct (p ∷ ps) = Outside p ps × Distinct ps
 
 -- two lists share no place
 abbrev pub Disjoint : List ℕ → List ℕ → Type 0
 Disjoint [] qs = Unit {0}
-Disjoint (p ∷ ps) qs = Apart p qs × Disjoint ps qs
+Disjoint (p ∷ ps) qs = Outside p qs × Disjoint ps qs
 
 -- two frames have the same bit at each
 abbrev pub Agree : List ℕ → List ℕ → List ℕ → Type 0

@@ -23,19 +23,19 @@ pub record Around (first past start end : ℕ) : Type 0 where
   pub behind : past * 8 < end + 64
 
 -- byte d of these, counted from the one with the message's lowest bits
-unfoldable pub byteOf : Bool → ℕ → ℕ → ℕ → ℕ
-byteOf false first past d = first + d
-byteOf true first past d = past - 1 - d
+unfoldable pub windowByte : Bool → ℕ → ℕ → ℕ → ℕ
+windowByte false first past d = first + d
+windowByte true first past d = past - 1 - d
 
 -- n of these bytes from byte d on as a number, byte d the lowest
 unfoldable pub windowOf : Bool → ℕ → ℕ → List ℕ → ℕ → ℕ → ℕ
 windowOf big first past f d zero = 0
-windowOf big first past f d (suc n) = windowOf big first past f (d + 1) n * 256 + getD f (byteOf big first past d) 0
+windowOf big first past f d (suc n) = windowOf big first past f (d + 1) n * 256 + getD f (windowByte big first past d) 0
 
 -- the frame with a number for these bytes
 unfoldable pub withWindow : Bool → ℕ → ℕ → ℕ → ℕ → ℕ → List ℕ → List ℕ
 withWindow big first past d zero y f = f
-withWindow big first past d (suc n) y f = withWindow big first past (d + 1) n (y / 256) (set f (byteOf big first past d) (y % 256))
+withWindow big first past d (suc n) y f = withWindow big first past (d + 1) n (y / 256) (set f (windowByte big first past d) (y % 256))
 
 -- the number x with the bits of y, all of them in the mask m, for its own bits there
 unfoldable pub replaced : ℕ → ℕ → ℕ → ℕ

@@ -8,14 +8,14 @@ ghost use lib.Signed.{mag};
 ghost use Rattle.whole.specs.Whole.{word};
 ghost use Rattle.packing.specs.Places.{places, inFrame, placesIn, packed, unpacked};
 ghost use Rattle.packing.specs.Values.{inRange, valueOf, patternOf, extended};
-ghost use Rattle.packing.specs.Window.{Window, Around, byteOf, windowOf, replaced, withReplaced, lowBit, swapped, inOrder};
+ghost use Rattle.packing.specs.Window.{Window, Around, windowByte, windowOf, replaced, withReplaced, lowBit, swapped, inOrder};
 
 // ---- a field's bytes, first .. past, as one number
 
 // Byte d, counted from the one with the message's lowest bits.
-fn byte_of(big: bool, first: usize, past: usize, d: usize) -> usize
+fn window_byte(big: bool, first: usize, past: usize, d: usize) -> usize
     requires { ⌜ (first + d < past) × (past ≤ 36) ⌝ }
-    ensures { λ r. ⌜ (r ≡ byteOf big first past d) × (r < past) ⌝ }
+    ensures { λ r. ⌜ (r ≡ windowByte big first past d) × (r < past) ⌝ }
 {
     if big { past - 1 - d } else { first + d }
 }
@@ -29,7 +29,7 @@ fn window(frame: &[u8], big: bool, first: usize, past: usize) -> u64
     let mut d = past - first;
     while 0 < d {
         d -= 1;
-        x = x * 256 + frame[byte_of(big, first, past, d)] as u64;
+        x = x * 256 + frame[window_byte(big, first, past, d)] as u64;
     }
     x
 }
@@ -51,7 +51,7 @@ fn put_bits(frame: &mut [u8], big: bool, first: usize, past: usize, mask: u64, b
     let mut y = bits;
     let mut d = 0;
     while 0 < m {
-        let i = byte_of(big, first, past, d);
+        let i = window_byte(big, first, past, d);
         frame[i] = replaced_byte(frame[i], (m % 256) as u8, (y % 256) as u8);
         m = m / 256;
         y = y / 256;

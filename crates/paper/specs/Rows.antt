@@ -2,20 +2,19 @@
 -- what comes of it.
 -- Assumes nothing.
 use mathlib.Core.Path.{_≡_}
-use mathlib.Core.Bool.{Bool, true, false}
+use mathlib.Core.Bool.{Bool, true, false, cond}
 use mathlib.Core.List.{List, [], _∷_}
 use Prim.Native.Nat.{ℕ}
+use lib.Dec.{eqb}
 use lib.IntN.{ℤ, pos, negℤ}
 use lib.ListN.{length}
 use Rattle.packing.specs.Places.{placesIn, packed}
 use Rattle.packing.specs.Values.{patternOf}
-use Rattle.agreement.specs.Agreement.{agreed, statusOf}
-use Rattle.agreement.specs.declared.Agreed.the-variants.{Value}
 use Rattle.store.specs.declared.Message.{Message}
 use Rattle.store.specs.declared.MessageState.{MessageState}
-use Rattle.store.specs.Node.{isValid}
+use Rattle.store.specs.Node.{isValid, heldValue}
 use Rattle.start.specs.Start.{atFirst}
-use Rattle.message.specs.Messages.{offered}
+use Rattle.message.specs.Messages.{offered, settled}
 
 -- ---- the rows' words
 
@@ -34,21 +33,41 @@ big = true
 abbrev pub pack : ℤ → ℕ → ℕ → Bool → List ℕ → List ℕ
 pack value width start order frame = packed (placesIn (length frame) order start width) (patternOf 32 value) frame
 
--- the agreements by their numbers
-abbrev pub average : ℕ
-average = 1
+-- the state of a message at start, with that initial value
+abbrev pub initially : ℤ → MessageState
+initially v = atFirst 0 (patternOf 32 v)
 
-abbrev pub vote : ℕ
-vote = 2
+-- a received message of 32 bits with that sign and agreement, and without a filter
+abbrev pub received : ℕ → ℕ → Message
+received sign agreement =
+    record { width = 32; sign = sign; direction = 0; agreement = agreement; filter = 0; statusbit = 0; first = 0; fields = 8; x1 = 0; x2 = 0 }
+
+-- averages of signed and of unsigned messages, and a vote
+abbrev pub signedAveraging : Message
+signedAveraging = received 1 1
+
+abbrev pub average : Message
+average = received 0 1
+
+abbrev pub vote : Message
+vote = received 0 2
+
+-- what a receive gives: a value, or the answer of a status other than 0
+pub data Receives : Type 0 where
+  value : ℤ → Receives
+  answer : ℕ → Receives
+
+-- after a round in which those instances of a message count, which held 0 before
+unfoldable pub shown : Message → MessageState → Receives
+shown g s = cond (eqb (s .status) 0) (value (heldValue g s)) (answer (s .status))
+
+abbrev pub closed : Message → List ℤ → Receives
+closed g l = shown g (settled g (initially (pos 0)) false l)
 
 -- a sent message of 10 bits, signed, with that filter
 abbrev pub message : ℕ → Message
 message filter =
     record { width = 10; sign = 1; direction = 1; agreement = 0; filter = filter; statusbit = 1; first = 0; fields = 1; x1 = 0; x2 = 0 }
-
--- its state at start, with that initial value
-abbrev pub initially : ℤ → MessageState
-initially v = atFirst 0 (patternOf 32 v)
 
 -- whether it is valid after each of some values is sent, one after the other
 unfoldable pub sent : Message → MessageState → List ℤ → List Bool
@@ -67,10 +86,10 @@ pub record Rows : Type 0 where
   -- pack -1, signed 10 bits, start 0, little, into 00 00: FF 03
   pub P4 : pack (minus 1) 10 0 little (0x00 ∷ 0x00 ∷ []) ≡ 0xff ∷ 0x03 ∷ []
   -- average of -3, -4: -3
-  pub P5 : agreed average (minus 3 ∷ minus 4 ∷ []) ≡ Value (minus 3)
+  pub P5 : closed signedAveraging (minus 3 ∷ minus 4 ∷ []) ≡ value (minus 3)
   -- average of eight times 4,294,967,295: 4,294,967,295
   pub P6 :
-      agreed average
+      closed average
       (pos 4294967295
       ∷ pos 4294967295
       ∷ pos 4294967295
@@ -80,12 +99,12 @@ pub record Rows : Type 0 where
       ∷ pos 4294967295
       ∷ pos 4294967295
       ∷ [])
-      ≡ Value (pos 4294967295)
+      ≡ value (pos 4294967295)
   -- vote 5, 5, 9, 7: 5
-  pub P7 : agreed vote (pos 5 ∷ pos 5 ∷ pos 9 ∷ pos 7 ∷ []) ≡ Value (pos 5)
+  pub P7 : closed vote (pos 5 ∷ pos 5 ∷ pos 9 ∷ pos 7 ∷ []) ≡ value (pos 5)
   -- vote 5, 5, 9, 9: 20
-  pub P8 : statusOf (agreed vote (pos 5 ∷ pos 5 ∷ pos 9 ∷ pos 9 ∷ [])) ≡ 20
+  pub P8 : closed vote (pos 5 ∷ pos 5 ∷ pos 9 ∷ pos 9 ∷ []) ≡ answer 20
   -- vote 5 alone: 5
-  pub P9 : agreed vote (pos 5 ∷ []) ≡ Value (pos 5)
+  pub P9 : closed vote (pos 5 ∷ []) ≡ value (pos 5)
   -- filter 10, initial 0, then 10, 4, 7: passes, not, passes
   pub P10 : sent (message 10) (initially (pos 0)) (pos 10 ∷ pos 4 ∷ pos 7 ∷ []) ≡ true ∷ false ∷ true ∷ []

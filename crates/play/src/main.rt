@@ -2,6 +2,7 @@
 //
 // The input has two bytes, the numbers of records of the two layouts, then the layouts, then steps of 40 bytes: byte 0 the node, 0 or 1; byte 1 the call;
 // byte 2 the message or frame; byte 3 the length of the data or buffer; byte 4 the controller status; from byte 8 on the value's four bytes or the data.
+// The file script.txt beside this folder has the calls in words, with their answers.
 ghost use mathlib.Core.Path.{_≡_};
 ghost use Prim.Native.Nat.{_+_, _≤_};
 ghost use lib.ListN.{length};

@@ -6,7 +6,7 @@ use mathlib.Core.List.{List}
 use Prim.Native.Nat.{ℕ, _<_}
 use native.Mathlib.Omega.{arith}
 use Rattle.record.specs.Numbers.{anyBelow, leastBelow}
-use Rattle.record.specs.Records.{bytesOf}
+use Rattle.record.specs.Records.{recordBytes}
 use Rattle.record.proofs.Searches.{any-same, least-below, least-same}
 use Rattle.record.proofs.Own.{own-byte, own-frame, own-message, own-field}
 use Rattle.ranges.specs.Ranges.{isWrong, findingAt, wrongAt, faultAt, lowestFault, rangeFault}
@@ -27,8 +27,8 @@ same-lowest p q h =
     go true e = rw (h (leastBelow (wrongAt q) 24) (least-below (wrongAt q) 24 e .below)) refl
     go false e = refl
 
-pub own-range : (s : List ℕ) (i : ℕ) → rangeFault (bytesOf s i) 0 ≡ rangeFault s i
+pub own-range : (s : List ℕ) (i : ℕ) → rangeFault (recordBytes s i) 0 ≡ rangeFault s i
 unfolding rangeFault findingAt
 own-range s i =
-    same-lowest (findingAt (bytesOf s i) 0) (findingAt s i)
+    same-lowest (findingAt (recordBytes s i) 0) (findingAt s i)
     (λ k l. rw (own-byte s i 0 (omega arith), own-frame s i, own-message s i, own-field s i, own-byte s i k l) refl)

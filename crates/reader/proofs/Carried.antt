@@ -19,7 +19,7 @@ use Rattle.record.specs.declared.Field.{Field}
 use Rattle.record.proofs.Tests.{to-last, any-clear, meanings}
 use Rattle.record.proofs.Searches.{any-holds, found}
 use Rattle.layout.specs.Counts.{countsBefore}
-use Rattle.layout.specs.Verdict.{isFieldOf, fieldsOf, unlike, noField, complete, failsAt}
+use Rattle.layout.specs.Verdict.{isFieldOf, fieldsAmong, unlike, noField, complete, failsAt}
 use Rattle.layout.specs.WellLaid.{Below}
 use Rattle.reader.specs.Carried.{atHand, isAtHand, earlierBy, Earlier, numberAfter, Lacks, lackingAfter}
 use Rattle.layout.specs.declared.Counts.{Counts}
@@ -104,7 +104,7 @@ module _ (s : List ℕ) where
         (simp meanings at other) (omega arith) (w .field)
         (omega (arith, w .message, same, no-lower (fieldAt s (i - 1)) (fieldAt s i) (o .field (omega arith) (w .field) kind))))
 
-    number-right : (b : Bool) → isAtHand s i ≡ b → fieldsOf s (fieldAt s i .message) i ≡ cond b (atHand s i) 0
+    number-right : (b : Bool) → isAtHand s i ≡ b → fieldsAmong s (fieldAt s i .message) i ≡ cond b (atHand s i) 0
     unfolding atHand
     number-right true e = rw (at-hand i e .1 .1) refl
     number-right false e = tally-none (isFieldOf s (fieldAt s i .message)) i (none-before e)
@@ -153,7 +153,7 @@ module _ (s : List ℕ) where
     before k l = pass k (omega arith)
 
     -- a field up to record i is of no message above it, and record i is one
-    none-above : (m : ℕ) → (byteAt s i 0 ≡ 3 → fieldAt s i .message < m) → fieldsOf s m (suc i) ≡ 0
+    none-above : (m : ℕ) → (byteAt s i 0 ≡ 3 → fieldAt s i .message < m) → fieldsAmong s m (suc i) ≡ 0
     unfolding isFieldOf isField
     none-above m above =
         tally-none (isFieldOf s m) (suc i)
@@ -165,7 +165,7 @@ module _ (s : List ℕ) where
     unfolding numberAfter atHand tally isFieldOf isField
     number-next {number} e = rw (back i) (go (ℕ-discrete (byteAt s i 0) 3))
       where
-        go : Dec (byteAt s i 0 ≡ 3) → cond (eqb (byteAt s i 0) 3) (earlierBy s i number + 1) 0 ≡ fieldsOf s (fieldAt s i .message) (suc i)
+        go : Dec (byteAt s i 0 ≡ 3) → cond (eqb (byteAt s i 0) 3) (earlierBy s i number + 1) 0 ≡ fieldsAmong s (fieldAt s i .message) (suc i)
         go (yes kind) =
             rw (kind, eq-eqb (fieldAt s i .message) (fieldAt s i .message) refl, earlier i before (ordered i (pass i (omega arith))) e .number kind) refl
         go (no other) =
@@ -176,20 +176,20 @@ module _ (s : List ℕ) where
     kept : (k : ℕ) → noField s i k ≡ false → noField s (suc i) k ≡ false
     unfolding noField
     kept k some =
-        ne-eqb (fieldsOf s k (suc i)) 0
-        (λ none. eqb-false (fieldsOf s k i) 0 some (omega (arith, tally-rises (isFieldOf s k) i (suc i) (omega arith))))
+        ne-eqb (fieldsAmong s k (suc i)) 0
+        (λ none. eqb-false (fieldsAmong s k i) 0 some (omega (arith, tally-rises (isFieldOf s k) i (suc i) (omega arith))))
 
     some-here : (m : ℕ) → isFieldOf s m i ≡ true → noField s (suc i) m ≡ false
     unfolding noField tally
-    some-here m e = ne-eqb (fieldsOf s m (suc i)) 0 (rw e (λ none. omega arith))
+    some-here m e = ne-eqb (fieldsAmong s m (suc i)) 0 (rw e (λ none. omega arith))
 
     none-higher : (m : ℕ) → isFieldOf s m i ≡ true → noField s (suc i) (m + 1) ≡ true
     unfolding noField isFieldOf isField
-    none-higher m e = eq-eqb (fieldsOf s (m + 1) (suc i)) 0 (none-above (m + 1) (λ kind. omega (arith, (simp meanings at e) .1)))
+    none-higher m e = eq-eqb (fieldsAmong s (m + 1) (suc i)) 0 (none-above (m + 1) (λ kind. omega (arith, (simp meanings at e) .1)))
 
     none-here : (m : ℕ) → noField s i m ≡ true → isFieldOf s m i ≡ false → noField s (suc i) m ≡ true
     unfolding noField tally
-    none-here m none e = eq-eqb (fieldsOf s m (suc i)) 0 (rw e (omega (arith, eqb-true (fieldsOf s m i) 0 none)))
+    none-here m none e = eq-eqb (fieldsAmong s m (suc i)) 0 (rw e (omega (arith, eqb-true (fieldsAmong s m i) 0 none)))
 
     pub lacking-next : {m : ℕ} → Lacks s i m → Lacks s (suc i) (lackingAfter s i m)
     unfolding lackingAfter isFieldOf

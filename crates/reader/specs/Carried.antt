@@ -13,14 +13,14 @@ use Rattle.record.specs.Runs.{messageRun, statusRun, pastEnd, meet}
 use Rattle.record.specs.declared.Run.{Run}
 use Rattle.used.specs.Used.{tableSize, anyUsed}
 use Rattle.layout.specs.Counts.{countsBefore}
-use Rattle.layout.specs.Verdict.{fieldsOf, unlike, noField, failsAt}
+use Rattle.layout.specs.Verdict.{fieldsAmong, unlike, noField, failsAt}
 use Rattle.layout.specs.declared.Counts.{Counts}
 
 -- ---- the fields of a message
 
 -- the message at hand is that of the last record: how many of the first i records are fields of it
 unfoldable pub atHand : List ℕ → ℕ → ℕ
-atHand s i = fieldsOf s (fieldAt s (i - 1) .message) i
+atHand s i = fieldsAmong s (fieldAt s (i - 1) .message) i
 
 -- field i is of the message at hand
 unfoldable pub isAtHand : List ℕ → ℕ → Bool
@@ -32,7 +32,7 @@ earlierBy s i number = cond (isAtHand s i) number 0
 
 -- that is so of record i, if it is a field; and of its earlier fields the last tells whether one is unlike it
 pub record Earlier (s : List ℕ) (i earlier : ℕ) : Type 0 where
-  pub number : byteAt s i 0 ≡ 3 → fieldsOf s (fieldAt s i .message) i ≡ earlier
+  pub number : byteAt s i 0 ≡ 3 → fieldsAmong s (fieldAt s i .message) i ≡ earlier
   pub status : byteAt s i 0 ≡ 3 → anyBelow (unlike s (fieldAt s i)) i ≡ (ltb 0 earlier && not (eqb (fieldAt s (i - 1) .status) (fieldAt s i .status)))
 
 -- the number of the message at hand with record i

@@ -17,8 +17,8 @@ unfoldable pub byteAt : List ℕ → ℕ → ℕ → ℕ
 byteAt s i k = getD s (i * 24 + k) 0
 
 -- its bytes by themselves
-unfoldable pub bytesOf : List ℕ → ℕ → List ℕ
-bytesOf s i = take 24 (drop (i * 24) s)
+unfoldable pub recordBytes : List ℕ → ℕ → List ℕ
+recordBytes s i = take 24 (drop (i * 24) s)
 
 -- the four-byte word at byte k of record i, little-endian
 unfoldable pub wordAt : List ℕ → ℕ → ℕ → ℕ

@@ -2,7 +2,7 @@
 ghost use mathlib.Core.Path.{_≡_};
 ghost use Prim.Native.Nat.{_+_, _*_, _≤_};
 ghost use lib.ListN.{length};
-ghost use Rattle.record.specs.Records.{byteAt, bytesOf, wordAt, frameAt, messageAt, fieldAt, recordAt, pairBelow};
+ghost use Rattle.record.specs.Records.{byteAt, recordBytes, wordAt, frameAt, messageAt, fieldAt, recordAt, pairBelow};
 ghost use Rattle.record.specs.Runs.{statusRun, pastEnd, meet};
 
 pub struct Frame {
@@ -74,7 +74,7 @@ fn word(file: &[u8], i: usize, k: usize) -> u32
 // The bytes of a record that the file has. Read as record 0 of these, its bytes need not be looked for past the end.
 pub fn bytes(file: &[u8], i: usize) -> &[u8]
     requires { ⌜ (i ≤ 1000) × (i * 24 + 24 ≤ length (now file)) ⌝ }
-    ensures { λ r. ⌜ now r ≡ bytesOf (now (file .entry)) i ⌝ }
+    ensures { λ r. ⌜ now r ≡ recordBytes (now (file .entry)) i ⌝ }
 {
     let at = i * 24;
     let end = at + 24;

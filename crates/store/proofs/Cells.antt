@@ -10,7 +10,7 @@ use lib.ListN.{length, getD, set, take, drop, replicate, length-append, length-d
 use lib.Seq.{drop-cons, length-take-le, paste, take-all, take-at}
 use Rattle.whole.specs.Whole.{Bytes}
 use Rattle.record.specs.declared.Field.{Field as FieldRecord}
-use Rattle.store.specs.Memory.{part, over}
+use Rattle.store.specs.Memory.{part, overwritten}
 use Rattle.store.specs.Node.{
   Delivery,
   StoredStage,
@@ -222,13 +222,13 @@ pub delivery-marked : (c : List ℕ) (k : ℕ) → length c ≡ 33 → deliveryO
 unfolding deliveryOf
 delivery-marked c k h = ap (λ (l : List ℕ). deliveryOf (set l 0 k)) (sym (bytes-front c 1 (omega arith)))
 
-pub delivery-filled : (c d : List ℕ) → length c ≡ 33 → deliveryOf (over c 1 32 (paste (part c 1 32) 0 d (length d))) ≡ filled (deliveryOf c) d
+pub delivery-filled : (c d : List ℕ) → length c ≡ 33 → deliveryOf (overwritten c 1 32 (paste (part c 1 32) 0 d (length d))) ≡ filled (deliveryOf c) d
 unfolding deliveryOf
 delivery-filled c d h =
     let size : length (drop 1 c) ≡ 32 = rw length-drop (omega arith) in
     let old : part c 1 32 ≡ drop 1 c = take-all 32 (drop 1 c) (omega arith) in
     let new : List ℕ = paste (drop 1 c) 0 d (length d) in
-    ap (λ (l : List ℕ). deliveryOf (over c 1 32 (paste l 0 d (length d)))) old
-    ∙ ap (λ (l : List ℕ). deliveryOf (over l 1 32 new)) (sym (bytes-front c 1 (omega arith)))
+    ap (λ (l : List ℕ). deliveryOf (overwritten c 1 32 (paste l 0 d (length d)))) old
+    ∙ ap (λ (l : List ℕ). deliveryOf (overwritten l 1 32 new)) (sym (bytes-front c 1 (omega arith)))
     ∙ ap (λ (l : List ℕ). record { delivered = getD c 0 0; bytes = l })
     (ap (λ (l : List ℕ). new ++ l) (drop-of-length-le (drop 1 c) {i = 32} (omega arith)) ∙ append-nil new)

@@ -7,3 +7,4 @@ pub mod Forgotten
 pub mod Laws
 pub mod RoundTrip
 pub mod Empty
+pub mod Claims

@@ -21,7 +21,7 @@ use lib.Seq.{
 }
 use borrow.Rule.Slice.PartMut.{putMid, set-mid-at}
 use Rattle.whole.specs.Whole.{Bytes}
-use Rattle.store.specs.Memory.{part, over}
+use Rattle.store.specs.Memory.{part, overwritten}
 
 -- the s bytes at p and the t bytes at q have none in common
 abbrev pub Apart : ℕ → ℕ → ℕ → ℕ → Type 0
@@ -72,26 +72,26 @@ module _ (b : List ℕ) (at t : ℕ) (c : List ℕ) (fits : at + t ≤ length b)
   length-front : length (take at b) ≡ at
   length-front = length-take-le at b (omega arith)
 
-  pub length-over : length (over b at t c) ≡ length b
+  pub length-over : length (overwritten b at t c) ≡ length b
   length-over = rw (length-append, length-append, length-drop, length-front, sized) (omega arith)
 
-  pub part-written : part (over b at t c) at t ≡ c
+  pub part-written : part (overwritten b at t c) at t ≡ c
   part-written = ap (take t) (drop-at (take at b) (c ++ drop (at + t) b) at length-front) ∙ take-at c (drop (at + t) b) t sized
 
-  pub behind : (p : ℕ) → at + t ≤ p → drop p (over b at t c) ≡ drop p b
+  pub behind : (p : ℕ) → at + t ≤ p → drop p (overwritten b at t c) ≡ drop p b
   behind p h =
       let j : ℕ = p - (at + t) in
       let e : p ≡ at + t + j = omega arith in
       let end : length (take at b ++ c) ≡ at + t = rw (length-append, length-front, sized) refl in
-      let rest : drop (at + t) (over b at t c) ≡ drop (at + t) b =
+      let rest : drop (at + t) (overwritten b at t c) ≡ drop (at + t) b =
       ap (drop (at + t)) (sym (append-assoc (take at b) c (drop (at + t) b))) ∙ drop-at (take at b ++ c) (drop (at + t) b) (at + t) end in
-      ap (λ (k : ℕ). drop k (over b at t c)) e
-      ∙ sym (drop-drop j (at + t) (over b at t c))
+      ap (λ (k : ℕ). drop k (overwritten b at t c)) e
+      ∙ sym (drop-drop j (at + t) (overwritten b at t c))
       ∙ ap (drop j) rest
       ∙ drop-drop j (at + t) b
       ∙ ap (λ (k : ℕ). drop k b) (sym e)
 
-  pub part-stays : (p s : ℕ) → Apart p s at t → part (over b at t c) p s ≡ part b p s
+  pub part-stays : (p s : ℕ) → Apart p s at t → part (overwritten b at t c) p s ≡ part b p s
   part-stays p s (inl h) =
       let before : p + s ≤ length (take at b) = rw length-front h in
       part-front (take at b) (c ++ drop (at + t) b) p s before
@@ -100,15 +100,15 @@ module _ (b : List ℕ) (at t : ℕ) (c : List ℕ) (fits : at + t ≤ length b)
   part-stays p s (inr h) = ap (take s) (behind p h)
 
   -- a byte before it
-  pub byte-stays : (i : ℕ) → i < at → getD (over b at t c) i 0 ≡ getD b i 0
+  pub byte-stays : (i : ℕ) → i < at → getD (overwritten b at t c) i 0 ≡ getD b i 0
   byte-stays i h =
-      sym (getD-take at (over b at t c) i 0 h)
+      sym (getD-take at (overwritten b at t c) i 0 h)
       ∙ ap (λ (r : List ℕ). getD r i 0) (part-stays 0 at (inl (omega arith)))
       ∙ getD-take at b i 0 h
 
 -- a write inside a part is a write of the part
 pub over-within : (b : List ℕ) (at s i t : ℕ) (c : List ℕ) → at + s ≤ length b → i + t ≤ s
-    → over b (at + i) t c ≡ over b at s (over (part b at s) i t c)
+    → overwritten b (at + i) t c ≡ overwritten b at s (overwritten (part b at s) i t c)
 over-within b at s i t c fits inside =
     let r : List ℕ = drop at b in
     let size : length (take s r) ≡ s = length-part b at s fits in
@@ -119,14 +119,14 @@ over-within b at s i t c fits inside =
     rw (take-add at i b, rest, ← take-take i s r (omega arith)) (simp append-assoc)
 
 -- a part that was lent comes back as c
-put-over : (b : List ℕ) (at s : ℕ) (c : List ℕ) → putMid at s b c ≡ over b at s c
+put-over : (b : List ℕ) (at s : ℕ) (c : List ℕ) → putMid at s b c ≡ overwritten b at s c
 put-over b at s c = rw drop-drop refl
 
-pub part-back : (b : List ℕ) (at s : ℕ) {c d : List ℕ} → c ≡ d → putMid at (at + s - at) b c ≡ over b at s d
+pub part-back : (b : List ℕ) (at s : ℕ) {c d : List ℕ} → c ≡ d → putMid at (at + s - at) b c ≡ overwritten b at s d
 part-back b at s {c} {d} same = let e : at + s - at ≡ s = omega arith in rw (same, e) (put-over b at s d)
 
 -- the first byte of a part is written
-pub first-within : (b : List ℕ) (at s v : ℕ) → at + s ≤ length b → 0 < s → set b at v ≡ over b at s (set (part b at s) 0 v)
+pub first-within : (b : List ℕ) (at s v : ℕ) → at + s ≤ length b → 0 < s → set b at v ≡ overwritten b at s (set (part b at s) 0 v)
 first-within b at s v fits inside =
     ap (λ (i : ℕ). set b i v) (sym (add-zero at))
     ∙ sym (set-mid-at at s 0 b v (rw (length-part b at s fits) inside))

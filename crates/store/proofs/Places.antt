@@ -14,7 +14,7 @@ use Rattle.store.specs.declared.Frame.{Frame}
 use Rattle.store.specs.declared.Message.{Message}
 use Rattle.store.specs.declared.MessageState.{MessageState}
 use Rattle.store.specs.declared.Stage.{Stage}
-use Rattle.store.specs.Memory.{part, over}
+use Rattle.store.specs.Memory.{part, overwritten}
 use Rattle.store.specs.Node.{
   Layout,
   State,
@@ -164,7 +164,7 @@ record Write (b : List ℕ) : Type 0 where
 
 module _ {b : List ℕ} (w : Write b) where
   abbrev new : List ℕ
-  new = over b (w .at) (w .size) (w .bytes)
+  new = overwritten b (w .at) (w .size) (w .bytes)
 
   stays : {A : Type 0} (decode : List ℕ → A) (s n base : ℕ) → Apart base (n * s) (w .at) (w .size)
       → region decode s n base new ≡ region decode s n base b
@@ -219,12 +219,12 @@ module _ {b : List ℕ} (w : Write b) where
 -- ---- writing
 
 -- a cell of one byte
-byte-over : (b : List ℕ) (base k v : ℕ) → base + k < length b → set b (base + k) v ≡ over b (base + k * 1) 1 (v ∷ [])
+byte-over : (b : List ℕ) (base k v : ℕ) → base + k < length b → set b (base + k) v ≡ overwritten b (base + k * 1) 1 (v ∷ [])
 byte-over b base k v h = let e : base + k * 1 ≡ base + k = omega arith in rw (e, add-one) (set-split b (base + k) v h)
 
 module _ (b : List ℕ) (size : length b ≡ nodeSize) where
   pub numbers-written : (F M D : ℕ)
-      → nodeOf (over b 0 3 (F ∷ M ∷ D ∷ [])) ≡ record { layout = withNumbers (layoutOf b) F M D; state = stateOf b }
+      → nodeOf (overwritten b 0 3 (F ∷ M ∷ D ∷ [])) ≡ record { layout = withNumbers (layoutOf b) F M D; state = stateOf b }
   unfolding layoutOf
   numbers-written F M D =
       let w : Write b = record { at = 0; size = 3; bytes = F ∷ M ∷ D ∷ []; inside = omega arith; sized = refl } in
@@ -237,7 +237,7 @@ module _ (b : List ℕ) (size : length b ≡ nodeSize) where
       ))
 
   pub frame-written : (f : ℕ) (c : List ℕ) → f < 32 → length c ≡ 6
-      → nodeOf (over b (framesAt + f * 6) 6 c) ≡ record { layout = withFrame (layoutOf b) f (frameOf c); state = stateOf b }
+      → nodeOf (overwritten b (framesAt + f * 6) 6 c) ≡ record { layout = withFrame (layoutOf b) f (frameOf c); state = stateOf b }
   unfolding layoutOf
   frame-written f c h e =
       let w : Write b = record { at = framesAt + f * 6; size = 6; bytes = c; inside = omega arith; sized = e } in
@@ -246,7 +246,7 @@ module _ (b : List ℕ) (size : length b ≡ nodeSize) where
       (fields-stay w (inr (omega arith))) (index-stays w (inr (omega arith))))
 
   pub message-written : (m : ℕ) (c : List ℕ) → m < 32 → length c ≡ 16
-      → nodeOf (over b (messagesAt + m * 16) 16 c) ≡ record { layout = withMessage (layoutOf b) m (messageOf c); state = stateOf b }
+      → nodeOf (overwritten b (messagesAt + m * 16) 16 c) ≡ record { layout = withMessage (layoutOf b) m (messageOf c); state = stateOf b }
   unfolding layoutOf
   message-written m c h e =
       let w : Write b = record { at = messagesAt + m * 16; size = 16; bytes = c; inside = omega arith; sized = e } in
@@ -255,7 +255,7 @@ module _ (b : List ℕ) (size : length b ≡ nodeSize) where
       (fields-stay w (inr (omega arith))) (index-stays w (inr (omega arith))))
 
   pub laid-written : (d : ℕ) (c : List ℕ) → d < 128 → length c ≡ 5
-      → nodeOf (over b (fieldsAt + d * 5) 5 c) ≡ record { layout = withLaid (layoutOf b) d (laidOf c); state = stateOf b }
+      → nodeOf (overwritten b (fieldsAt + d * 5) 5 c) ≡ record { layout = withLaid (layoutOf b) d (laidOf c); state = stateOf b }
   unfolding layoutOf
   laid-written d c h e =
       let w : Write b = record { at = fieldsAt + d * 5; size = 5; bytes = c; inside = omega arith; sized = e } in
@@ -273,7 +273,7 @@ module _ (b : List ℕ) (size : length b ≡ nodeSize) where
       (cell-written listedOf 1 128 indexAt b i (d ∷ []) (omega arith) h refl))
 
   pub delivery-written : (f : ℕ) (c : List ℕ) → f < 32 → length c ≡ 33
-      → nodeOf (over b (deliveriesAt + f * 33) 33 c) ≡ nodeWith (nodeOf b) (withDelivery (stateOf b) f (deliveryOf c))
+      → nodeOf (overwritten b (deliveriesAt + f * 33) 33 c) ≡ nodeWith (nodeOf b) (withDelivery (stateOf b) f (deliveryOf c))
   unfolding stateOf
   delivery-written f c h e =
       let w : Write b = record { at = deliveriesAt + f * 33; size = 33; bytes = c; inside = omega arith; sized = e } in
@@ -281,7 +281,7 @@ module _ (b : List ℕ) (size : length b ≡ nodeSize) where
       (cc (cell-written deliveryOf 33 32 deliveriesAt b f c (omega arith) h e, states-stay w (inr (omega arith)), stages-stay w (inr (omega arith))))
 
   pub state-written : (m : ℕ) (c : List ℕ) → m < 32 → length c ≡ stateSize
-      → nodeOf (over b (statesAt + m * stateSize) stateSize c) ≡ nodeWith (nodeOf b) (withState (stateOf b) m (messageStateOf c))
+      → nodeOf (overwritten b (statesAt + m * stateSize) stateSize c) ≡ nodeWith (nodeOf b) (withState (stateOf b) m (messageStateOf c))
   unfolding stateOf
   state-written m c h e =
       let w : Write b = record { at = statesAt + m * stateSize; size = stateSize; bytes = c; inside = omega arith; sized = e } in

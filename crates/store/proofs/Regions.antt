@@ -12,7 +12,7 @@ use native.Mathlib.Omega.{arith}
 use lib.ListN.{length, getD, set, take, drop, length-append, length-drop, length-set, take-append-drop}
 use lib.Seq.{drop-at, drop-drop, ext-getD, getD-set-other, getD-set-same, length-take-le, take-add, take-at}
 use Rattle.whole.specs.Whole.{Bytes}
-use Rattle.store.specs.Memory.{part, over, cells, uncells}
+use Rattle.store.specs.Memory.{part, overwritten, cells, uncells}
 use Rattle.store.proofs.Parts.{Apart, bytes-drop, bytes-take, part-written, part-stays}
 
 -- ---- the cells of a memory
@@ -61,16 +61,16 @@ module _ {A : Type 0} (decode : List ℕ → A) (s n base : ℕ) where
 
   -- cell k is written: element k is another, and no other is
   pub cell-written : (b : List ℕ) (k : ℕ) (c : List ℕ) → base + n * s ≤ length b → k < n → length c ≡ s
-      → region (over b (base + k * s) s c) ≡ set (region b) k (decode c)
+      → region (overwritten b (base + k * s) s c) ≡ set (region b) k (decode c)
   cell-written b k c fits h sized =
-      same-region (over b (base + k * s) s c) (set (region b) k (decode c)) (length-set (region b) k (decode c) ∙ length-region b)
+      same-region (overwritten b (base + k * s) s c) (set (region b) k (decode c)) (length-set (region b) k (decode c) ∙ length-region b)
       (λ j i. element j i (ℕ-discrete j k))
     where
       inside : base + k * s + s ≤ length b
       inside = omega (arith, cell-ends s k n h)
 
       element : (j : ℕ) → j < n → Dec (j ≡ k)
-          → decode (part (over b (base + k * s) s c) (base + j * s) s) ≡ getD (set (region b) k (decode c)) j (decode [])
+          → decode (part (overwritten b (base + k * s) s c) (base + j * s) s) ≡ getD (set (region b) k (decode c)) j (decode [])
       element j i (yes same) =
           rw same
           (ap decode (part-written b (base + k * s) s c inside sized)
@@ -81,9 +81,9 @@ module _ {A : Type 0} (decode : List ℕ → A) (s n base : ℕ) where
 
   -- bytes outside the region are written: it is as it was
   pub region-stays : (b : List ℕ) (at t : ℕ) (c : List ℕ) → at + t ≤ length b → length c ≡ t → Apart base (n * s) at t
-      → region (over b at t c) ≡ region b
+      → region (overwritten b at t c) ≡ region b
   region-stays b at t c inside sized apart =
-      same-region (over b at t c) (region b) (length-region b)
+      same-region (overwritten b at t c) (region b) (length-region b)
       (λ j i. ap decode (part-stays b at t c inside sized (base + j * s) s (cell-apart j i apart)) ∙ sym (cell-read b j (decode []) i))
     where
       cell-apart : (j : ℕ) → j < n → Apart base (n * s) at t → Apart (base + j * s) s at t
@@ -113,7 +113,7 @@ module _ {A : Type 0} (encode : A → List ℕ) (decode : List ℕ → A) (s : �
       ∙ take-append-drop (n * s) (drop base b)
 
 module _ {A : Type 0} (encode : A → List ℕ) (s : ℕ) (sized : (x : A) → length (encode x) ≡ s) where
-  length-cells : (l : List A) → length (cells encode l) ≡ length l * s
+  pub length-cells : (l : List A) → length (cells encode l) ≡ length l * s
   unfolding cells
   length-cells [] = sym (zero-mul s)
   length-cells (x ∷ l) = rw (length-append, sized, length-cells l, suc-mul) (add-comm s (length l * s))

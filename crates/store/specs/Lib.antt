@@ -1,3 +1,4 @@
 pub mod Memory
 pub mod Node
 pub mod Writing
+pub mod Claims

@@ -9,8 +9,8 @@ abbrev pub part : List ℕ → ℕ → ℕ → List ℕ
 part b at s = take s (drop at b)
 
 -- the memory with c over the s bytes there
-abbrev pub over : List ℕ → ℕ → ℕ → List ℕ → List ℕ
-over b at s c = take at b ++ (c ++ drop (at + s) b)
+abbrev pub overwritten : List ℕ → ℕ → ℕ → List ℕ → List ℕ
+overwritten b at s c = take at b ++ (c ++ drop (at + s) b)
 
 module _ {A : Type 0} where
   -- the bytes of cells, one after the other

@@ -61,9 +61,6 @@ frameCount l = countsOf l .frames
 abbrev pub messageCount : Layout → ℕ
 messageCount l = countsOf l .messages
 
-abbrev pub fieldCount : Layout → ℕ
-fieldCount l = countsOf l .fields
-
 -- ---- what the bytes of a cell say, in the paper's words
 
 abbrev pub isSigned : Message → Bool

@@ -281,7 +281,13 @@ pub fn no_state() -> MessageState
 
 // ---- reading the layout
 
-fn least(k: u8, most: usize) -> usize
+pub fn smaller(a: usize, b: usize) -> usize
+    ensures { λ r. ⌜ r ≡ min a b ⌝ }
+{
+    if a <= b { a } else { b }
+}
+
+fn at_most(k: u8, most: usize) -> usize
     ensures { λ r. ⌜ r ≡ min k most ⌝ }
 {
     let n = k as usize;
@@ -289,14 +295,14 @@ fn least(k: u8, most: usize) -> usize
 }
 
 // How many frames, messages and fields there are.
-pub fn counts(node: &[u8]) -> Counts
+pub fn counts_of(node: &[u8]) -> Counts
     requires { ⌜ length (now node) ≡ nodeSize ⌝ }
     ensures { λ r. ⌜ r ≡ countsOf (layoutOf (now (node .entry))) ⌝ }
 {
     Counts {
-        frames: least(node[0], 32),
-        messages: least(node[1], 32),
-        fields: least(node[2], 128),
+        frames: at_most(node[0], 32),
+        messages: at_most(node[1], 32),
+        fields: at_most(node[2], 128),
     }
 }
 
@@ -373,7 +379,7 @@ pub fn mark_at(node: &[u8], f: usize) -> u8
 pub fn data_length(h: Frame) -> usize
     ensures { λ r. ⌜ r ≡ min (h .length) 32 ⌝ }
 {
-    least(h.length, 32)
+    at_most(h.length, 32)
 }
 
 // The data of a frame, where they lie.
@@ -382,7 +388,7 @@ pub fn data_at(node: &[u8], f: usize) -> &[u8]
     ensures { λ r. ⌜ now r ≡ dataAt (nodeOf (now (node .entry))) f ⌝ }
 {
     let from = 1475 + f * 33 + 1;
-    let end = from + least(node[3 + f * 6], 32);
+    let end = from + at_most(node[3 + f * 6], 32);
     &node[from..end]
 }
 

@@ -13,7 +13,7 @@ use Rattle.record.proofs.Searches.{any-holds}
 use Rattle.used.specs.Used.{inRun}
 
 -- two tests that hold together are one
-same-tests : (a b : Bool) → ((a ≡ true) ↔ (b ≡ true)) → a ≡ b
+pub same-tests : (a b : Bool) → ((a ≡ true) ↔ (b ≡ true)) → a ≡ b
 same-tests true b h = sym (h .0 refl)
 same-tests false true h = h .1 refl
 same-tests false false h = refl

@@ -13,7 +13,7 @@ use mir.ValLaws.{toZ-ofZ}
 use Rattle.whole.specs.Whole.{allOf}
 use Rattle.whole.proofs.Loops.{all-turn, all-stop, all-end}
 use Rattle.agreement.specs.Agreement.{messageValue}
-use Rattle.agreement.proofs.Group.{value-test}
+use Rattle.agreement.proofs.MessageValues.{value-test}
 use Rattle.agreement.proofs.all_values.Statement.{statement}
 use Rattle.agreement.proofs.all_values.Tie as tie
 

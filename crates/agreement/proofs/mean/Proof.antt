@@ -15,8 +15,8 @@ use borrow.Author.Tests.{not-true, not-false}
 use Rattle.whole.specs.Whole.{allOf}
 use Rattle.whole.proofs.Integers.{small-fits, back}
 use Rattle.agreement.specs.declared.Agreed.the-variants.{Value}
-use Rattle.agreement.specs.Agreement.{meanOf, messageValue, group}
-use Rattle.agreement.proofs.Group.{group-test, group-parts, no-mean, has-mean}
+use Rattle.agreement.specs.Agreement.{meanOf, messageValue, messageValues}
+use Rattle.agreement.proofs.MessageValues.{values-test, values-parts, no-mean, has-mean}
 use Rattle.agreement.proofs.Quotient.{quotient-small}
 use Rattle.agreement.proofs.mean.Statement.{statement}
 use Rattle.agreement.proofs.mean.Tie as tie
@@ -24,23 +24,23 @@ use Rattle.agreement.proofs.mean.Tie as tie
 returns : tie.Need-returns
 returns c =
     let l = c .before .args .instances .now in
-    no-mean l (group-test l ∙ ap (λ t. not t && allOf messageValue l) (c .if1 .taken))
+    no-mean l (values-test l ∙ ap (λ t. not t && allOf messageValue l) (c .if1 .taken))
 
 all-values-requires : tie.Need-all-values-requires
 all-values-requires c κs = search needs
 
 -- after the test of the count, that of the values decides
-decided : (c : tie.After-all-values) → group (c .before .before .args .instances .now) ≡ c .all-values .result
+decided : (c : tie.After-all-values) → messageValues (c .before .before .args .instances .now) ≡ c .all-values .result
 decided c =
     let l = c .before .before .args .instances .now in
-    group-test l ∙ ap (λ t. not t && allOf messageValue l) (c .before .if1 .left) ∙ sym (c .all-values .ensures)
+    values-test l ∙ ap (λ t. not t && allOf messageValue l) (c .before .if1 .left) ∙ sym (c .all-values .ensures)
 
 returns-2 : tie.Need-returns-2
 returns-2 c =
     let l = c .before .before .before .args .instances .now in
     no-mean l (decided (c .before) ∙ not-true (c .before .all-values .result) (c .if2 .taken))
 
-passed : (c : tie.Else2) → group (c .before .before .before .args .instances .now) ≡ true
+passed : (c : tie.Else2) → messageValues (c .before .before .before .args .instances .now) ≡ true
 passed c = decided (c .before) ∙ not-false (c .before .all-values .result) (c .if2 .left)
 
 sum-of-requires : tie.Need-sum-of-requires
@@ -71,7 +71,7 @@ module _ (c : tie.After-sum-of) where
   mean-is = ap (λ s. quotZ s (pos (length l))) (c .sum-of .ensures .0)
 
 div-t8 : tie.Need-div-t8
-div-t8 c = (omega (arith, group-parts (l c) (passed (c .before)) .0), room c _)
+div-t8 c = (omega (arith, values-parts (l c) (passed (c .before)) .0), room c _)
 
 returns-3 : tie.Need-returns-3
 returns-3 c =

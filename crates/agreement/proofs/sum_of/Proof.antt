@@ -12,7 +12,7 @@ use mir.ValLaws.{toZ-ofZ}
 use Rattle.whole.proofs.Integers.{small-fits, back}
 use Rattle.agreement.specs.Agreement.{messageValue, sumOf}
 use Rattle.agreement.proofs.Quotient.{abs-add}
-use Rattle.agreement.proofs.Group.{value-small, all-at, group-parts}
+use Rattle.agreement.proofs.MessageValues.{value-small, all-at, values-parts}
 use Rattle.agreement.proofs.Turns.{sum-turn, sum-end}
 use Rattle.agreement.proofs.sum_of.Statement.{statement}
 use Rattle.agreement.proofs.sum_of.Tie as tie
@@ -49,12 +49,12 @@ module _ (c : tie.After-s Inv-loop μ-loop) where
 
   small : natAbs sum ≤ (c .before .before .loop .j + 1) * 2 ^ 32
   small =
-      let values = group-parts instances (c .before .before .before .pre) .2 in
+      let values = values-parts instances (c .before .before .before .pre) .2 in
       let value = value-small added (all-at messageValue instances (c .before .before .loop .j) (pos 0) values (omega arith)) in
       omega (arith, abs-add (toZ w64 (c .before .before .loop .s)) added)
 
   room : natAbs sum ≤ 2 ^ 40
-  room = omega (arith, small, group-parts instances (c .before .before .before .pre) .1)
+  room = omega (arith, small, values-parts instances (c .before .before .before .pre) .1)
 
 add-s : tie.Need-add-s Inv-loop μ-loop
 add-s c = rw (read c) (small-fits (sum c) (room c))
@@ -74,7 +74,7 @@ returns : tie.Need-returns Inv-loop μ-loop
 returns c =
     let l = c .before .before .args .instances .now in
     let p = c .before .loop in
-    (sum-end l (p .j) (omega arith) (toZ w64 (p .s)) (p .inv .2), omega (arith, group-parts l (c .before .before .pre) .1))
+    (sum-end l (p .j) (omega arith) (toZ w64 (p .s)) (p .inv .2), omega (arith, values-parts l (c .before .before .pre) .1))
 
 pub sum-of-spec : {M : Type 1} → statement M
 sum-of-spec =

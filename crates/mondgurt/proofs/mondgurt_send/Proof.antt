@@ -1,4 +1,5 @@
 -- `mondgurt::mondgurt_send` meets its contract: the value is read back from its bits. Assumes nothing.
+use mathlib.Core.Path.{refl}
 use borrow.Author.Needs.{needs}
 use mir.Syntax.{w64}
 use mir.ValLaws.{toZ-ofZ}
@@ -11,7 +12,7 @@ send-requires c κs = search needs
 returns : tie.Need-returns
 returns c =
     let start = c .before .before in
-    rw (toZ-ofZ w64 (start .args .value) (start .fits .value)) at (c .send .ensures)
+    (rw (toZ-ofZ w64 (start .args .value) (start .fits .value)) at (c .send .ensures), refl)
 
 pub mondgurt-send-spec : {M : Type 1} → statement M
 mondgurt-send-spec = tie.close (tie.spec send-requires returns)

@@ -13,7 +13,7 @@ use Rattle.own.specs.declared.Owner.{Owner}
 use Rattle.own.specs.declared.Places.{Places}
 use Rattle.own.specs.Own.{endPlace, cellsOf}
 use Rattle.node.specs.Calls.{goneAt}
-use Rattle.node.proofs.Turns.{ahead, first-ahead, inside, all-turn, all-skip, all-stop, all-end}
+use Rattle.own.proofs.Ahead.{ahead, first-ahead, inside, all-turn, all-skip, all-stop, all-end}
 use Rattle.node.proofs.all_gone.Statement.{statement}
 use Rattle.node.proofs.all_gone.Tie as tie
 

@@ -12,7 +12,8 @@ use Rattle.own.specs.declared.Owner.{Owner}
 use Rattle.own.specs.declared.Places.{Places}
 use Rattle.own.specs.Own.{endPlace, fieldsOf}
 use Rattle.node.specs.Calls.{allInvalid}
-use Rattle.node.proofs.Turns.{inside, invalidAhead, invalid-begin, invalid-turn, invalid-skip, invalid-stop, invalid-end}
+use Rattle.own.proofs.Ahead.{inside}
+use Rattle.node.proofs.Turns.{invalidAhead, invalid-begin, invalid-turn, invalid-skip, invalid-stop, invalid-end}
 use Rattle.node.proofs.all_invalid.Statement.{statement}
 use Rattle.node.proofs.all_invalid.Tie as tie
 

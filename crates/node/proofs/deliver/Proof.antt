@@ -42,19 +42,19 @@ returns-refused : tie.Need-returns
 unfolding deliverOf
 returns-refused c = untouched _ _ _ (c .before .deliver-answer .ensures) (c .if1 .taken)
 
-least-requires : tie.Need-least-requires
-least-requires c κs = search needs
+smaller-requires : tie.Need-smaller-requires
+smaller-requires c κs = search needs
 
 slice-aggregate-put-data : tie.Need-slice-aggregate-put-data
 slice-aggregate-put-data c =
     let short = c .before .before in
-    sym (length-take-le (short .least .result) _ (omega (arith, short .least .ensures)))
+    sym (length-take-le (short .smaller .result) _ (omega (arith, short .smaller .ensures)))
 
 put-data-requires : tie.Need-put-data-requires
 put-data-requires c κs =
     let short = c .before .before in
     let start = short .before .before .before .before .before .before .before in
-    let size = length-take-le (short .least .result) (start .args .bytes .now) (omega (arith, short .least .ensures)) in
+    let size = length-take-le (short .smaller .result) (start .args .bytes .now) (omega (arith, short .smaller .ensures)) in
     (in-cell (short .before .before), omega arith, search needs)
 
 put-mark-requires : tie.Need-put-mark-requires
@@ -75,7 +75,7 @@ returns-kept c =
     let f = start .args .frame in
     let number : f < length (stateOf b .deliveries) = omega (arith, deliveries-length b, in-cell passed) in
     done _ _ _ _ (sym (passed .before .deliver-answer .ensures) ∙ passed .if1 .left)
-    (rw (short .before .if2 .taken, ← take-least (start .args .bytes .now) (short .least .result) 32 (short .least .ensures))
+    (rw (short .before .if2 .taken, ← take-least (start .args .bytes .now) (short .smaller .result) 32 (short .smaller .ensures))
     (marked-too (nodeOf b) f _ number (fill .put-data .ensures) (mark .put-mark .ensures)))
 
 same-length-3 : tie.Need-same-length-3
@@ -92,7 +92,7 @@ deliver-spec =
     deliver-answer-requires
     same-length
     returns-refused
-    least-requires
+    smaller-requires
     slice-aggregate-put-data
     put-data-requires
     put-mark-requires

@@ -16,7 +16,7 @@ use Rattle.own.specs.declared.Owner.{Owner}
 use Rattle.own.specs.declared.Places.{Places}
 use Rattle.own.specs.Own.{endPlace, fieldsOf}
 use Rattle.node.specs.Calls.{moved, written}
-use Rattle.node.proofs.Turns.{ahead, first-ahead, last-ahead, inside, own-ahead, other-ahead}
+use Rattle.own.proofs.Ahead.{ahead, first-ahead, last-ahead, inside, own-ahead, other-ahead}
 use Rattle.node.proofs.Turns.{after-stored, movedAhead, move-begin, move-turn, move-skip, move-end}
 use Rattle.node.proofs.load_fields.Statement.{statement}
 use Rattle.node.proofs.load_fields.Tie as tie

@@ -12,7 +12,8 @@ use Rattle.store.proofs.Laws.{stage-stored}
 use Rattle.own.specs.declared.Places.{Places}
 use Rattle.own.specs.Own.{endPlace}
 use Rattle.node.specs.Calls.{moved}
-use Rattle.node.proofs.Turns.{end-few, inside, after-stored, movedAhead, move-begin, move-turn, move-skip, move-end}
+use Rattle.own.proofs.Ahead.{end-few, inside}
+use Rattle.node.proofs.Turns.{after-stored, movedAhead, move-begin, move-turn, move-skip, move-end}
 use Rattle.node.proofs.move_fields.Statement.{statement}
 use Rattle.node.proofs.move_fields.Tie as tie
 

@@ -18,17 +18,17 @@ message-at-requires c κs =
 cast-from : tie.Need-cast-from
 cast-from c = search needs
 
-cast-least : tie.Need-cast-least
-cast-least c = search needs
+cast-smaller : tie.Need-cast-smaller
+cast-smaller c = search needs
 
-least-requires : tie.Need-least-requires
-least-requires c κs = search needs
+smaller-requires : tie.Need-smaller-requires
+smaller-requires c κs = search needs
 
-add-least : tie.Need-add-least
-add-least c = search needs
+add-smaller : tie.Need-add-smaller
+add-smaller c = search needs
 
-least-requires-2 : tie.Need-least-requires-2
-least-requires-2 c κs = search needs
+smaller-requires-2 : tie.Need-smaller-requires-2
+smaller-requires-2 c κs = search needs
 
 enum-known-owner-2 : tie.Need-enum-known-owner-2
 enum-known-owner-2 c = search needs
@@ -44,26 +44,26 @@ frame-at-requires c κs =
 cast-from-2 : tie.Need-cast-from-2
 cast-from-2 c = search needs
 
-cast-least-2 : tie.Need-cast-least-2
-cast-least-2 c = search needs
+cast-smaller-2 : tie.Need-cast-smaller-2
+cast-smaller-2 c = search needs
 
-add-least-2 : tie.Need-add-least-2
-add-least-2 c = search needs
+add-smaller-2 : tie.Need-add-smaller-2
+add-smaller-2 c = search needs
 
-least-requires-3 : tie.Need-least-requires-3
-least-requires-3 c κs = search needs
+smaller-requires-3 : tie.Need-smaller-requires-3
+smaller-requires-3 c κs = search needs
 
 returns : tie.Need-returns
 returns c =
     let read = c .before .before .before .before in
     let owner = read .before .before .owner .given .1 in
-    (rw (owner, c .least2 .ensures, c .before .least .ensures) (rw (read .message-at .ensures)), omega arith)
+    (rw (owner, c .smaller2 .ensures, c .before .smaller .ensures) (rw (read .message-at .ensures)), omega arith)
 
 returns-2 : tie.Need-returns-2
 returns-2 c =
     let read = c .before .before .before in
     let owner = read .before .before .owner2 .given .1 in
-    (rw (owner, c .least3 .ensures) (rw (read .frame-at .ensures)), omega arith)
+    (rw (owner, c .smaller3 .ensures) (rw (read .frame-at .ensures)), omega arith)
 
 pub places-of-spec : {M : Type 1} → statement M
 places-of-spec =
@@ -73,16 +73,16 @@ places-of-spec =
     cast-message-at
     message-at-requires
     cast-from
-    cast-least
-    least-requires
-    add-least
-    least-requires-2
+    cast-smaller
+    smaller-requires
+    add-smaller
+    smaller-requires-2
     enum-known-owner-2
     cast-frame-at
     frame-at-requires
     cast-from-2
-    cast-least-2
-    add-least-2
-    least-requires-3
+    cast-smaller-2
+    add-smaller-2
+    smaller-requires-3
     returns
     returns-2)

@@ -9,7 +9,7 @@ use native.Mathlib.Omega.{arith}
 use lib.ListN.{getD}
 use lib.Pow.{shl-exact}
 use Rattle.whole.specs.Whole.{Bytes}
-use Rattle.packing.specs.Window.{byteOf, windowOf}
+use Rattle.packing.specs.Window.{windowByte, windowOf}
 use Rattle.packing.proofs.Windows.{read-next, window-room}
 use Rattle.packing.proofs.eight_bytes.Statement.{statement}
 use Rattle.packing.proofs.eight_bytes.Tie as tie
@@ -47,7 +47,7 @@ sum : (c : tie.After-shared-slice-known Inv-loop μ-loop) →
     let a = c .before .before .before .args in
     let l = c .before .before .loop in
     l .x + getD (a .frame .now) (a .at + l .d) 0 * 2 ^ (l .d * 8) % 2 ^ 64 ≡ windowOf false (a .at) (a .at + 8) (a .frame .now) 0 (l .d + 1)
-unfolding byteOf
+unfolding windowByte
 sum c =
     let a = c .before .before .before .args in
     let l = c .before .before .loop in

@@ -33,8 +33,8 @@ left : (c : tie.In-loop Inv-loop μ-loop) →
     (l .d < n) × (l .m / 256 < 2 ^ ((n - (l .d + 1)) * 8))
 left c = let l = c .before .loop in mask-turn _ (l .d) (l .m) (omega arith) (l .inv .3)
 
-byte-of-requires : tie.Need-byte-of-requires Inv-loop μ-loop
-byte-of-requires c κs = let h = left c in (omega arith, omega arith)
+window-byte-requires : tie.Need-window-byte-requires Inv-loop μ-loop
+window-byte-requires c κs = let h = left c in (omega arith, omega arith)
 
 slice-read-byte : tie.Need-slice-read-replaced-byte Inv-loop μ-loop
 slice-read-byte c = omega arith
@@ -61,7 +61,7 @@ loop-again : tie.Need-loop-again Inv-loop μ-loop
 loop-again c =
     let l = c .before .before .before .before .loop in
     let a = c .before .before .before .before .before .before .args in
-    let i = c .before .before .byte-of .result in
+    let i = c .before .before .window-byte .result in
     let n = a .past - a .first in
     let h = left (c .before .before .before) in
     let e : n - l .d ≡ suc (n - (l .d + 1)) = omega arith in
@@ -71,7 +71,7 @@ loop-again c =
       set-bytes (l .frame) i _ (l .inv .2) (omega arith),
       h .1,
       rest-in-mask (l .m) (l .y) (l .inv .4),
-      rw (c .replaced-byte .ensures, c .before .before .byte-of .ensures .0) (sym step ∙ rw e at (l .inv .5)),
+      rw (c .replaced-byte .ensures, c .before .before .window-byte .ensures .0) (sym step ∙ rw e at (l .inv .5)),
     )
 
 same-length : tie.Need-same-length Inv-loop μ-loop
@@ -92,7 +92,7 @@ put-bits-spec =
     Inv-loop
     μ-loop
     loop-holds
-    byte-of-requires
+    window-byte-requires
     slice-read-byte
     cast-mask
     cast-bits

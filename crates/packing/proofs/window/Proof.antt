@@ -41,19 +41,19 @@ room c =
 mul-x : tie.Need-mul-x Inv-loop μ-loop
 mul-x c = let h = room c in omega arith
 
-byte-of-requires : tie.Need-byte-of-requires Inv-loop μ-loop
-byte-of-requires c κs = (omega arith, omega arith)
+window-byte-requires : tie.Need-window-byte-requires Inv-loop μ-loop
+window-byte-requires c κs = (omega arith, omega arith)
 
 shared-slice-read-x : tie.Need-shared-slice-read-x Inv-loop μ-loop
 shared-slice-read-x c = omega arith
 
 cast-x : tie.Need-cast-x Inv-loop μ-loop
-cast-x c = omega (arith, c .shared-slice-known2 .given (c .before .byte-of .result))
+cast-x c = omega (arith, c .shared-slice-known2 .given (c .before .window-byte .result))
 
 add-x : tie.Need-add-x Inv-loop μ-loop
 add-x c =
     let h = room (c .before .before) in
-    omega (arith, c .shared-slice-known2 .given (c .before .byte-of .result))
+    omega (arith, c .shared-slice-known2 .given (c .before .window-byte .result))
 
 loop-less : tie.Need-loop-less Inv-loop μ-loop
 loop-less c = omega arith
@@ -63,7 +63,7 @@ loop-again c =
     let l = c .before .before .before .loop in
     let a = c .before .before .before .before .before .args in
     let turn = read-turn (a .big) (a .first) (a .past) (a .frame .now) (l .d) (a .past - a .first) (omega arith) (omega arith) in
-    (omega arith, rw (c .before .byte-of .ensures .0, l .inv .1) turn)
+    (omega arith, rw (c .before .window-byte .ensures .0, l .inv .1) turn)
 
 returns : tie.Need-returns Inv-loop μ-loop
 returns c =
@@ -83,7 +83,7 @@ window-spec =
     loop-holds
     sub-d
     mul-x
-    byte-of-requires
+    window-byte-requires
     shared-slice-read-x
     cast-x
     add-x

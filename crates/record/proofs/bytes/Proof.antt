@@ -4,7 +4,7 @@ use mathlib.Core.Path.{_≡_, refl}
 use Prim.Native.Nat.{_+_, _-_, _*_}
 use native.Mathlib.Omega.{arith}
 use borrow.Author.Needs.{needs}
-use Rattle.record.specs.Records.{bytesOf}
+use Rattle.record.specs.Records.{recordBytes}
 use Rattle.record.proofs.bytes.Statement.{statement}
 use Rattle.record.proofs.bytes.Tie as tie
 
@@ -24,7 +24,7 @@ part-result-end : tie.Need-part-result-end
 part-result-end c = search needs
 
 returns : tie.Need-returns
-unfolding bytesOf
+unfolding recordBytes
 returns c =
     let at = c .before .args .i * 24 in
     let e : at + 24 - at ≡ 24 = omega arith in

@@ -8,7 +8,7 @@ use lib.ListN.{length, replicate, drop, length-append, length-drop, length-repli
 use lib.Seq.{take-at}
 use borrow.Author.Needs.{needs}
 use borrow.Rule.Slice.PartMut.{putMid}
-use Rattle.store.specs.Memory.{over}
+use Rattle.store.specs.Memory.{overwritten}
 use Rattle.store.specs.Node.{nodeSize, nodeOf}
 use Rattle.store.proofs.Parts.{length-part, part-back}
 use Rattle.store.proofs.Empty.{nothing-read}
@@ -16,7 +16,7 @@ use Rattle.store.proofs.clear.Statement.{statement}
 use Rattle.store.proofs.clear.Tie as tie
 
 -- the two parts, one after the other
-both : (b x y : List ℕ) → length b ≡ nodeSize → length x ≡ 2851 → length y ≡ 128 → over (over b 0 2851 x) 2851 128 y ≡ x ++ y
+both : (b x y : List ℕ) → length b ≡ nodeSize → length x ≡ 2851 → length y ≡ 128 → overwritten (overwritten b 0 2851 x) 2851 128 y ≡ x ++ y
 both b x y size first second =
     let all : List ℕ = x ++ drop 2851 b in
     let whole : length all ≡ nodeSize = rw (length-append, length-drop) (omega arith) in
@@ -63,7 +63,7 @@ returns c =
     let rest : second .fill2 .last .0 ≡ twos =
     second .fill2 .ensures ∙ ap (λ (n : ℕ). replicate n 2) (length-part half 2851 128 (search needs)) in
     ap nodeOf
-    (part-back half 2851 128 rest ∙ ap (λ (m : List ℕ). over m 2851 128 twos) (part-back b 0 2851 front)
+    (part-back half 2851 128 rest ∙ ap (λ (m : List ℕ). overwritten m 2851 128 twos) (part-back b 0 2851 front)
     ∙ both b zeros twos (s .pre) (length-replicate {A = ℕ} 2851 0) (length-replicate {A = ℕ} 128 2))
     ∙ nothing-read
 

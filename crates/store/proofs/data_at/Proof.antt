@@ -19,17 +19,17 @@ add-from c = search needs
 add-from-2 : tie.Need-add-from-2
 add-from-2 c = search needs
 
-mul-least : tie.Need-mul-least
-mul-least c = search needs
+mul-at-most : tie.Need-mul-at-most
+mul-at-most c = search needs
 
-add-least : tie.Need-add-least
-add-least c = search needs
+add-at-most : tie.Need-add-at-most
+add-at-most c = search needs
 
-shared-slice-read-least : tie.Need-shared-slice-read-least
-shared-slice-read-least c = search needs
+shared-slice-read-at-most : tie.Need-shared-slice-read-at-most
+shared-slice-read-at-most c = search needs
 
-least-requires : tie.Need-least-requires
-least-requires c κs = search needs
+at-most-requires : tie.Need-at-most-requires
+at-most-requires c κs = search needs
 
 add-end : tie.Need-add-end
 add-end c = search needs
@@ -48,8 +48,8 @@ returns c =
     let s = c .before .before .before .before in
     let node = s .args .node .now in
     let from : ℕ = deliveriesAt + s .args .f * 33 + 1 in
-    part-lent node from (c .before .least .result)
-    ∙ ap (part node from) (c .before .least .ensures)
+    part-lent node from (c .before .at-most .result)
+    ∙ ap (part node from) (c .before .at-most .ensures)
     ∙ sym (data-read node (s .pre .1) (s .args .f) (s .pre .0))
 
 pub data-at-spec : {M : Type 1} → statement M
@@ -59,10 +59,10 @@ data-at-spec =
     mul-from
     add-from
     add-from-2
-    mul-least
-    add-least
-    shared-slice-read-least
-    least-requires
+    mul-at-most
+    add-at-most
+    shared-slice-read-at-most
+    at-most-requires
     add-end
     sub-result
     part-result-start

@@ -7,7 +7,7 @@ use native.Mathlib.Omega.{arith}
 use lib.ListN.{length}
 use lib.Seq.{paste, length-paste}
 use borrow.Author.Needs.{needs}
-use Rattle.store.specs.Memory.{part, over}
+use Rattle.store.specs.Memory.{part, overwritten}
 use Rattle.store.specs.Node.{deliveriesAt}
 use Rattle.store.proofs.Parts.{part-lent, part-back, part-within, length-part, length-over, over-within}
 use Rattle.store.proofs.Cells.{delivery-filled}
@@ -59,7 +59,7 @@ returns c =
     cc (
       part-back node (at + 1) 32 copied,
       over-within node at 33 1 32 new (omega arith) (omega arith),
-      delivery-written node (s .pre .2) f (over cell 1 32 new) (s .pre .0) (length-over cell 1 32 new (omega arith) room ∙ size),
+      delivery-written node (s .pre .2) f (overwritten cell 1 32 new) (s .pre .0) (length-over cell 1 32 new (omega arith) room ∙ size),
       delivery-filled cell bytes size,
       delivery-read node f (s .pre .0),
     )

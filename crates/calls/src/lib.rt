@@ -1,0 +1,1 @@
+// The nine calls and their contracts as relations: definitions, and no code.

@@ -1,0 +1,3 @@
+pub mod Table
+pub mod Many
+pub mod Rows

@@ -1,0 +1,1 @@
+// Layout files and their verdicts, computed: rows, and no code.

@@ -61,7 +61,7 @@ mean-between lo hi l p t =
     let high = rw (quotient-exact n p hi) at (quotient-order n p (sumOf l) (pos n *ℤ hi) (sums .1)) in
     rw low high
 
--- ---- a group has an average, and nothing else has
+-- ---- one to eight instances that messages hold have an average, and nothing else has
 
 pub average-value : (l : List ℤ) (v : ℤ) → (average l ≡ Value v) ↔ ((messageValues l ≡ true) × (v ≡ meanOf l))
 average-value l v = (go (messageValues l) refl, λ h. let f = has-mean l (h .0) in cc)

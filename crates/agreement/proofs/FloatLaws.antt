@@ -21,7 +21,7 @@ use Rattle.agreement.proofs.Running.{left-none, left-out, left-in}
 use Rattle.agreement.proofs.Passed.{pattern-back, agreed-finite}
 use Rattle.agreement.proofs.Vote.{vote-value}
 
-of-eight : (k : ℕ) (l : List ℤ) → length l ≤ 8 → floatsAgreed k l ≡ leftAgreed k (leftOf l)
+pub of-eight : (k : ℕ) (l : List ℤ) → length l ≤ 8 → floatsAgreed k l ≡ leftAgreed k (leftOf l)
 unfolding floatsAgreed
 of-eight k l h = rw (le-leb (length l) 8 h) refl
 

@@ -9,7 +9,7 @@ use native.Mathlib.Omega.{arith}
 use lib.Dec.{ltb, leb}
 use lib.IntN.{ℤ, pos, negsuc, negℤ, natAbs}
 use lib.ListN.{length, getD}
-use lib.Signed.{ltZ, leZ}
+use lib.Signed.{ltZ}
 use borrow.Author.Tests.{leb-true}
 use Rattle.whole.specs.Whole.{allOf}
 use Rattle.whole.proofs.Integers.{at-most}
@@ -56,7 +56,7 @@ values-parts l t =
     let few = and-eq-true-iff (leb 1 (length l)) (leb (length l) 8) .0 (parts .0) in
     (leb-true 1 (length l) (few .0), leb-true (length l) 8 (few .1), parts .1)
 
--- ---- a group has a mean, and nothing else has
+-- ---- they have a mean, and nothing else has
 
 pub no-mean : (l : List ℤ) → messageValues l ≡ false → NoResult ≡ average l
 unfolding average

@@ -4,12 +4,11 @@
 use mathlib.Core.Path.{_≡_, refl}
 use mathlib.Core.Bool.{Bool, true, false, not, cond, and-eq-true-iff}
 use mathlib.Core.List.{List, [], _∷_}
-use Prim.Native.Nat.{ℕ, zero, suc, _^_, _<_, _≤_}
+use Prim.Native.Nat.{ℕ, zero, suc, _^_, _<_}
 use native.Mathlib.Nat.{mod-eq-of-lt}
 use lib.Dec.{leb}
 use lib.IntN.{ℤ, pos}
 use lib.ListN.{length}
-use borrow.Author.Tests.{le-leb, not-true}
 use Rattle.whole.specs.Whole.{allOf}
 use Rattle.packing.specs.Values.{patternOf}
 use Rattle.float.specs.Patterns.{aside}
@@ -18,7 +17,6 @@ use Rattle.float.proofs.Itself.{over-small}
 use Rattle.agreement.specs.declared.Agreed.the-variants.{Value, NoResult}
 use Rattle.agreement.specs.Agreement.{pickAny, ahead, oneThat, vote}
 use Rattle.agreement.specs.Floats.{leftOf, sumFrom, finiteValue, floatMean, leftAgreed, floatsAgreed}
-use Rattle.agreement.proofs.Running.{left-in}
 
 -- what a search finds passes each test that all pass
 found-passes : (q p : ℤ → Bool) (l : List ℤ) (v : ℤ) → allOf q l ≡ true → oneThat p l ≡ Value v → q v ≡ true
@@ -103,11 +101,6 @@ module _ (q : ℤ → Bool) (finite : (x : ℕ) → x < 2 ^ 32 → aside x ≡ f
       go : (b : Bool) → cond b (leftAgreed k (leftOf l)) NoResult ≡ Value v → q v ≡ true
       go true e = left-passes k (leftOf l) v t e
       go false e = cc
-
--- of a few instances pick any takes the first, if that is not set aside
-pub first-picked : (v : ℤ) (l : List ℤ) → length (v ∷ l) ≤ 8 → isFinite v ≡ true → floatsAgreed 0 (v ∷ l) ≡ Value v
-unfolding floatsAgreed leftAgreed
-first-picked v l few finite = rw (le-leb (length (v ∷ l)) 8 few, left-in v l (not-true (aside (patternOf 32 v)) finite)) refl
 
 pub agreed-finite : (k : ℕ) (l : List ℤ) (v : ℤ) → floatsAgreed k l ≡ Value v → isFinite v ≡ true
 agreed-finite k l v = floats-pass isFinite (λ x h a. rw (pattern-back x h, a) refl) k l v (left-finite l)

@@ -52,7 +52,7 @@ module _ (n : ℕ) (big : Bool) (start w : ℕ) (f : List ℕ) where
 -- ---- the agreed value
 
 -- a value in a message's range is a number that some message holds
-in-range-value : (signed : Bool) (w : ℕ) (v : ℤ) → inRange signed w v ≡ true → messageValue v ≡ true
+pub in-range-value : (signed : Bool) (w : ℕ) (v : ℤ) → inRange signed w v ≡ true → messageValue v ≡ true
 unfolding inRange isWidth least greatest messageValue
 in-range-value signed w v r = go signed v (range-wider signed w v r)
   where
@@ -105,7 +105,7 @@ module _ (n : Node) (m : ℕ) where
   unfolding valueIn
   instance-in-range i x = value-there _ _ _ _ _ (isSigned message) i
 
-  -- so they are a group where there is one
+  -- so they have a mean where there is one
   pub instances-held : isWidth (message .width) ≡ true → 0 < length (instances n m) → messageValues (instances n m) ≡ true
   unfolding messageValues
   instances-held i some =

@@ -1,4 +1,4 @@
--- The value that the kit reads from a pattern is the number of specs/Numbers.antt.
+-- The value that the kit reads from a pattern is its number (specs/Patterns.antt).
 -- Assumes nothing.
 use mathlib.Core.Path.{_≡_, refl, ap, sym, _∙_, subst}
 use mathlib.Core.Bool.{Bool, true, false, not, cond, true≢false}

@@ -13,6 +13,7 @@ use native.Mathlib.Decide.{decLt}
 use lib.Dec.{eqb}
 use borrow.Author.Tests.{le-leb}
 use Rattle.packing.specs.Places.{placeOf, frameBit, bitPlaces, places, inFrame, placesIn, Outside, Disjoint}
+use Rattle.packing.proofs.Places.{place-own}
 use Rattle.record.specs.Runs.{messageRun, statusRun}
 use Rattle.record.specs.declared.Frame.{Frame}
 use Rattle.record.specs.declared.Message.{Message}
@@ -23,11 +24,6 @@ use Rattle.layout.specs.WellLaid.{UsesForStatus, Uses, Below, theField, 
 use Rattle.layout.proofs.Runs.{On, on-status}
 
 -- ---- the places of a run
-
-same-bit : (big : Bool) (x y : ℕ) → placeOf big x ≡ placeOf big y → x ≡ y
-unfolding placeOf
-same-bit false x y e = omega arith
-same-bit true x y e = omega arith
 
 frame-bit : (big : Bool) (a : Run) (j : ℕ) → j < a .width → On a (frameBit big (a .start) (a .width) j)
 unfolding frameBit
@@ -52,7 +48,7 @@ run-disjoint : (big : Bool) (a b : Run) → ((x : ℕ) → On a x → On b x →
 run-disjoint big a b h = run-places big a (λ ps. Disjoint ps (runPlaces big b)) tt (λ x ps on rest. (apart x on, rest))
   where
     apart : (x : ℕ) → On a x → Outside (placeOf big x) (runPlaces big b)
-    apart x on = run-places big b (Outside (placeOf big x)) tt (λ y ps on-b rest. (λ e. h x on (rw (same-bit big x y e) on-b), rest))
+    apart x on = run-places big b (Outside (placeOf big x)) tt (λ y ps on-b rest. (λ e. h x on (rw (place-own big x y e) on-b), rest))
 
 -- packing finds a run's places in a frame that holds it
 run-placed :

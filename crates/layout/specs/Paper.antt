@@ -5,9 +5,9 @@ use Prim.Native.Nat.{ℕ, _-_}
 use lib.ListN.{length, replicate}
 
 -- a record: its first bytes, and zeros to 24
-unfoldable pub filled : List ℕ → List ℕ
-filled l = l ++ replicate (24 - length l) 0
+unfoldable pub recordOf : List ℕ → List ℕ
+recordOf l = l ++ replicate (24 - length l) 0
 
 -- the paper's file: 01 00 02, 02 00 0A and 03 00 00 03, each filled with zeros
 abbrev pub paper : List ℕ
-paper = filled (1 ∷ 0 ∷ 2 ∷ []) ++ filled (2 ∷ 0 ∷ 10 ∷ []) ++ filled (3 ∷ 0 ∷ 0 ∷ 3 ∷ [])
+paper = recordOf (1 ∷ 0 ∷ 2 ∷ []) ++ recordOf (2 ∷ 0 ∷ 10 ∷ []) ++ recordOf (3 ∷ 0 ∷ 0 ∷ 3 ∷ [])

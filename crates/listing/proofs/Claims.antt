@@ -9,7 +9,7 @@ use Rattle.record.specs.Runs.{pastEnd, meet, clash}
 use Rattle.ranges.specs.Ranges.{wrongIf, wordFits, wordFinding, frameFinding, messageFinding, fieldFinding, findingOf, findingAt, wrongAt}
 use Rattle.ranges.specs.Ranges.{lowestFault, rangeFault}
 use Rattle.layout.specs.Counts.{countsBefore}
-use Rattle.layout.specs.Paper.{filled, paper}
+use Rattle.layout.specs.Paper.{recordOf, paper}
 use Rattle.layout.specs.Verdict.{sizeFault, orderFault, refFault, isFieldOf, unlike, groupFault, clashAt, placeFault, fails, refusalOf}
 use Rattle.layout.specs.Verdict.{noField, complete, failsAt, refusalAt, judged, verdict}
 use Rattle.layout.specs.declared.Verdict.{Verdict}
@@ -19,7 +19,7 @@ use Rattle.listing.proofs.Decimal.{decimal-reads}
 
 paper-accepted : verdict paper ≡ Verdict.Accepted 1 1 1
 unfolding
-    filled extended isWidth extend aside
+    recordOf extended isWidth extend aside
     tally anyBelow leastBelow
     byteAt wordAt isFrame isMessage isField frameAt messageAt fieldAt countsBefore
     wrongIf wordFits wordFinding frameFinding messageFinding fieldFinding findingOf findingAt wrongAt lowestFault rangeFault
@@ -28,5 +28,5 @@ unfolding
 paper-accepted = refl
 
 pub claims : Claims
-unfolding filled byteAt messageAt fieldAt digits statusText lineOf lineAt lines byteText refusalText listing
+unfolding recordOf byteAt messageAt fieldAt digits statusText lineOf lineAt lines byteText refusalText listing
 claims = record { decimal-reads = decimal-reads; example = rw paper-accepted; refused-with-byte = refl; refused = refl }

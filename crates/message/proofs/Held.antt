@@ -1,25 +1,19 @@
--- The values that a message can hold: of whole numbers those of its range, of floats the finite patterns. A word that fits has such a value, and of
--- instances pick any takes the first if it is one.
+-- The values that a message can hold: of whole numbers those of its range, of floats the finite patterns. A word that fits has such a value.
 -- Assumes nothing.
 use mathlib.Core.Path.{_≡_, refl}
-use mathlib.Core.Bool.{Bool, true, false, not, _&&_, cond, and-eq-true-iff}
-use mathlib.Core.List.{List, _∷_}
-use Prim.Native.Nat.{ℕ, _-_, _^_, _<_, _≤_}
+use mathlib.Core.Bool.{Bool, true, false, not, _&&_, and-eq-true-iff}
+use Prim.Native.Nat.{ℕ, _-_, _^_, _<_}
 use native.Mathlib.Omega.{arith}
 use lib.Dec.{leb}
 use lib.IntN.{ℤ, pos}
-use lib.ListN.{length}
 use borrow.Author.Tests.{ne-eqb, eqb-true, leb-true}
 use Rattle.packing.specs.Values.{isWidth, least, greatest, inRange, valueOf, patternOf}
 use Rattle.packing.proofs.Values.{range-wider}
 use Rattle.float.specs.Patterns.{aside}
-use Rattle.agreement.specs.declared.Agreed.the-variants.{Value}
-use Rattle.agreement.specs.Agreement.{agreed}
-use Rattle.agreement.specs.Floats.{floatsAgreed}
-use Rattle.agreement.proofs.Passed.{isFinite, pattern-back, first-picked}
+use Rattle.agreement.proofs.Passed.{isFinite, pattern-back}
 use Rattle.store.specs.declared.Message.{Message}
 use Rattle.store.specs.Node.{isSigned, isFloat}
-use Rattle.message.specs.Messages.{canHold, agreedBy}
+use Rattle.message.specs.Messages.{canHold}
 
 module _ (g : Message) where
   pub float-unsigned : isFloat g ≡ true → isSigned g ≡ false
@@ -44,16 +38,6 @@ module _ (g : Message) where
     pub held-finite : isFloat g ≡ true → canHold g v ≡ true → isFinite v ≡ true
     unfolding canHold
     held-finite f t = rw f at (and-eq-true-iff (inRange (isSigned g) (g .width) v) _ .0 t .1)
-
--- of a few instances pick any takes the first, if the message can hold it
-pub picked : (g : Message) (v : ℤ) (l : List ℤ) → g .agreement ≡ 0 → length (v ∷ l) ≤ 8 → (isFloat g ≡ true → isFinite v ≡ true)
-    → agreedBy g (v ∷ l) ≡ Value v
-unfolding agreedBy agreed
-picked g v l pick few finite = rw pick (go (isFloat g) refl)
-  where
-    go : (float : Bool) → isFloat g ≡ float → cond float (floatsAgreed 0 (v ∷ l)) (Value v) ≡ Value v
-    go true f = first-picked v l few (finite f)
-    go false f = refl
 
 -- the value of a pattern, if it is in some message's range, has that pattern
 in-range-small : (w x : ℕ) → inRange false w (pos x) ≡ true → x < 2 ^ 32

@@ -4,6 +4,7 @@ pub mod Turns
 pub mod Delivered
 pub mod Closed
 pub mod Meaning
+pub mod Suppressed
 pub mod Kept
 pub mod Starts
 pub mod StartMeans

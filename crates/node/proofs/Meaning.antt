@@ -19,7 +19,7 @@ use Rattle.packing.proofs.Values.{pattern-lowest, pattern-value, value-pattern}
 use Rattle.record.specs.declared.Field.{Field as FieldRecord}
 use Rattle.store.specs.declared.Message.{Message}
 use Rattle.store.specs.declared.MessageState.{MessageState}
-use Rattle.store.specs.Node.{Layout, Node, messageCount, isSigned, isSent, isValid, isBig, heldValue, frameAt, messageAt, laidAt, stateAt}
+use Rattle.store.specs.Node.{Layout, Node, messageCount, isSigned, isSent, isValid, isBig, heldValue, frameAt, messageAt, laidAt}
 use Rattle.message.specs.Fields.{statusPlaces, writes}
 use Rattle.message.proofs.Held.{held-in-range}
 use Rattle.own.specs.declared.Owner.{Owner}
@@ -27,7 +27,7 @@ use Rattle.own.specs.Own.{isIn, cellsOf, fieldsOf}
 use Rattle.node.specs.Calls.{assembleAnswer, written, assembled, receiveAnswer}
 use Rattle.own.specs.SoundLayout.{messagePlaces, itsStatusPlaces, SoundField, Apart}
 use Rattle.node.specs.Sound.{IsStatus, SoundMessageState, Sound}
-use Rattle.node.specs.Claims.{InFrame, itsMessage, itsState}
+use Rattle.node.specs.Claims.{InFrame, fieldMessage, fieldState}
 use Rattle.own.proofs.Lists.{by-test, Every, every-number, in-cases}
 use Rattle.own.proofs.Owners.{cell-names, fields-named}
 use Rattle.node.proofs.Answers.{assemble-tests}
@@ -38,7 +38,7 @@ use Rattle.node.proofs.Answers.{assemble-tests}
 module _ (n : Node) (x : FieldRecord) where
   abbrev put : List ℕ → List ℕ
   put b =
-      packed (itsStatusPlaces (n .layout) x) (cond (isValid (itsState n x)) 1 0) (packed (messagePlaces (n .layout) x) (itsState n x .held) b)
+      packed (itsStatusPlaces (n .layout) x) (cond (isValid (fieldState n x)) 1 0) (packed (messagePlaces (n .layout) x) (fieldState n x .held) b)
 
 -- what is written at the places of w bits that lie in the frame is read there
 written-there : (bytes : ℕ) (big : Bool) (start w v : ℕ) (c : List ℕ) → length c ≡ bytes → inFrame bytes start w ≡ true
@@ -50,21 +50,21 @@ written-there bytes big start w v c size lies =
 -- so the held pattern's lowest bits stand there, and the validity where it has a status bit
 module _ (n : Node) {d : ℕ} {x : FieldRecord} (field : SoundField (n .layout) d x) (c : List ℕ)
     (size : length c ≡ frameAt (n .layout) (x .frame) .length) where
-  put-held : unpacked (messagePlaces (n .layout) x) (put n x c) ≡ itsState n x .held % 2 ^ itsMessage n x .width
+  put-held : unpacked (messagePlaces (n .layout) x) (put n x c) ≡ fieldState n x .held % 2 ^ fieldMessage n x .width
   put-held =
       unpacked-other (messagePlaces (n .layout) x) (itsStatusPlaces (n .layout) x) _ _ (field .once)
-      ∙ written-there (frameAt (n .layout) (x .frame) .length) (isBig (frameAt (n .layout) (x .frame))) (x .start) (itsMessage n x .width)
-      (itsState n x .held) c size (field .lies)
+      ∙ written-there (frameAt (n .layout) (x .frame) .length) (isBig (frameAt (n .layout) (x .frame))) (x .start) (fieldMessage n x .width)
+      (fieldState n x .held) c size (field .lies)
 
-  put-status : x .status ≡ 1 → unpacked (itsStatusPlaces (n .layout) x) (put n x c) ≡ cond (isValid (itsState n x)) 1 0
+  put-status : x .status ≡ 1 → unpacked (itsStatusPlaces (n .layout) x) (put n x c) ≡ cond (isValid (fieldState n x)) 1 0
   unfolding statusPlaces
   put-status t =
       let bytes = frameAt (n .layout) (x .frame) .length in
       let big = isBig (frameAt (n .layout) (x .frame)) in
       let places : itsStatusPlaces (n .layout) x ≡ placesIn bytes big (x .place) 1 = rw t refl in
       rw places
-      (written-there bytes big (x .place) 1 (cond (isValid (itsState n x)) 1 0) _ (packed-length (messagePlaces (n .layout) x) _ c ∙ size)
-      (field .status-lies t) ∙ one-bit (isValid (itsState n x)))
+      (written-there bytes big (x .place) 1 (cond (isValid (fieldState n x)) 1 0) _ (packed-length (messagePlaces (n .layout) x) _ c ∙ size)
+      (field .status-lies t) ∙ one-bit (isValid (fieldState n x)))
     where
       one-bit : (t : Bool) → cond t 1 0 % 2 ^ 1 ≡ cond t 1 0
       one-bit true = refl
@@ -91,7 +91,7 @@ module _ (n : Node) (f : ℕ) where
   Sized b = length b ≡ frameAt (n .layout) f .length
 
   abbrev after : FieldRecord → List ℕ → List ℕ
-  after x b = writes (frameAt (n .layout) f) (itsMessage n x) (itsState n x) x b
+  after x b = writes (frameAt (n .layout) f) (fieldMessage n x) (fieldState n x) x b
 
   writes-put : (x : FieldRecord) (b : List ℕ) → Sized b → x .frame ≡ f → after x b ≡ put n x b
   unfolding writes
@@ -213,15 +213,15 @@ module _ {n : Node} (s : Sound n) (f : ℕ) (b : List ℕ) (ok : assembleAnswer 
           (s .layout .apart e d (omega arith) (fields-named (s .layout) (Owner.Frame f) d .0 mine .0) (sym same))
 
   -- its message's held value
-  pub held-stands : valueOf (isSigned (itsMessage n laid)) (itsMessage n laid .width) (unpacked (messagePlaces (n .layout) laid) (assembled n f b))
-      ≡ heldValue (itsMessage n laid) (itsState n laid)
+  pub held-stands : valueOf (isSigned (fieldMessage n laid)) (fieldMessage n laid .width) (unpacked (messagePlaces (n .layout) laid) (assembled n f b))
+      ≡ heldValue (fieldMessage n laid) (fieldState n laid)
   held-stands =
       rw (stands (messagePlaces (n .layout) laid) _ (put-held n field) (λ e h t. let a = others-apart e h t in (a .bits-bits, a .bits-status)))
-      (held-value (itsMessage n laid) (itsState n laid) (s .state .messages (laid .message) (field .message))
+      (held-value (fieldMessage n laid) (fieldState n laid) (s .state .messages (laid .message) (field .message))
       (in-frame-bounds _ _ _ (field .lies) .0))
 
   -- and its validity, where it has a status bit
-  pub status-stands : laid .status ≡ 1 → unpacked (itsStatusPlaces (n .layout) laid) (assembled n f b) ≡ cond (isValid (itsState n laid)) 1 0
+  pub status-stands : laid .status ≡ 1 → unpacked (itsStatusPlaces (n .layout) laid) (assembled n f b) ≡ cond (isValid (fieldState n laid)) 1 0
   status-stands t =
       stands (itsStatusPlaces (n .layout) laid) _ (λ c size. put-status n field c size t)
       (λ e h u. let a = others-apart e h u in (a .status-bits, a .status-status))

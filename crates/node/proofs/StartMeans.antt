@@ -11,8 +11,8 @@ use lib.Dec.{eqb}
 use borrow.Author.Tests.{lt-ltb}
 use Rattle.whole.specs.Whole.{allOf}
 use Rattle.layout.specs.WellLaid.{WellLaid}
-use Rattle.store.specs.Node.{Node, messageCount, isSent, isValid, hasStatusBit, heldValue, oldValue, noStage, messageAt, stateAt}
-use Rattle.start.specs.Start.{startStatusBit, initialValue, startMessage, startLayout, startState, startOf}
+use Rattle.store.specs.Node.{Node, messageCount, isSent, noStage, messageAt}
+use Rattle.start.specs.Start.{startStatusBit, startMessage, startLayout, startState, startOf}
 use Rattle.message.specs.Fields.{isGone}
 use Rattle.own.specs.declared.Owner.{Owner}
 use Rattle.own.specs.Own.{cellsOf}

@@ -9,7 +9,7 @@ use native.Mathlib.Omega.{arith}
 use lib.Dec.{leb}
 use lib.IntN.{ℤ, pos, negsuc, +ℤ-idr}
 use lib.Signed.{quotZ}
-use borrow.Author.Tests.{leb-true, le-leb, not-true}
+use borrow.Author.Tests.{leb-true, not-true}
 use Rattle.whole.specs.Whole.{allOf}
 use Rattle.whole.proofs.Integers.{eqZ-same}
 use Rattle.packing.specs.Values.{isWidth, least, greatest, inRange, patternOf}
@@ -24,6 +24,7 @@ use Rattle.store.specs.declared.Message.{Message}
 use Rattle.store.specs.Node.{isSigned, isFloat}
 use Rattle.message.specs.Messages.{canHold, agreedBy}
 use Rattle.message.proofs.Held.{float-unsigned, held-in-range, held-finite}
+use Rattle.closing.proofs.Instances.{in-range-value}
 
 -- ---- whole numbers
 
@@ -34,14 +35,6 @@ mean-alone v = rw (+ℤ-idr v) (by-one v)
     by-one : (v : ℤ) → quotZ v (pos 1) ≡ v
     by-one (pos n) = ap pos (omega arith)
     by-one (negsuc n) = let same : suc n / 1 ≡ suc n = omega arith in rw same refl
-
--- what some message can hold
-in-message : (signed : Bool) (v : ℤ) → inRange signed 32 v ≡ true → messageValue v ≡ true
-unfolding inRange isWidth least greatest messageValue
-in-message true (pos n) t = let most = leb-true n (2 ^ 31 - 1) t in le-leb n (2 ^ 32 - 1) (omega arith)
-in-message true (negsuc n) t = t
-in-message false (pos n) t = and-eq-true-iff (leb 0 n) (leb n (2 ^ 32 - 1)) .0 t .1
-in-message false (negsuc n) t = absurd (false≢true t)
 
 whole-alone : (k : ℕ) (v : ℤ) → k ≤ 2 → messageValue v ≡ true → agreed k (v ∷ []) ≡ Value v
 unfolding agreed average messageValues allOf vote oneThat ahead
@@ -66,9 +59,9 @@ pub alone : (g : Message) (v : ℤ) → g .agreement ≤ 2 → canHold g v ≡ t
 unfolding agreedBy
 alone g v h t = go (isFloat g) refl
   where
-    wide : inRange (isSigned g) 32 v ≡ true
-    wide = range-wider (isSigned g) (g .width) v (held-in-range g v t)
+    range : inRange (isSigned g) (g .width) v ≡ true
+    range = held-in-range g v t
 
     go : (float : Bool) → isFloat g ≡ float → cond float (floatsAgreed (g .agreement) (v ∷ [])) (agreed (g .agreement) (v ∷ [])) ≡ Value v
-    go true f = float-alone (g .agreement) v h (rw (float-unsigned g f) at wide) (held-finite g v f t)
-    go false f = whole-alone (g .agreement) v h (in-message (isSigned g) v wide)
+    go true f = float-alone (g .agreement) v h (rw (float-unsigned g f) at (range-wider (isSigned g) (g .width) v range)) (held-finite g v f t)
+    go false f = whole-alone (g .agreement) v h (in-range-value (isSigned g) (g .width) v range)

@@ -29,7 +29,7 @@ module _ {A : Type 0} where
   in-add t [] q i = there i
   in-add t (x ∷ p) q i = ⊎-elim in-eq (λ j. there (in-add t p q j)) (in-cases i)
 
-  pub in-mid : {t : A} (p q : List A) → In t (p ++ t ∷ q)
+  in-mid : {t : A} (p q : List A) → In t (p ++ t ∷ q)
   in-mid [] q = here
   in-mid (x ∷ p) q = there (in-mid p q)
 

@@ -14,9 +14,10 @@ use Rattle.store.specs.Node.{Layout, laidAt}
 use Rattle.own.specs.declared.Owner.{Owner}
 use Rattle.own.specs.Own.{isIn, cellsOf, fieldsOf}
 use Rattle.own.specs.SoundLayout.{SoundLayout}
+use Rattle.own.proofs.Lists.{all-in}
 use Rattle.own.proofs.Owners.{fields-named}
 use Rattle.order.specs.Order.{someOf, carries}
-use Rattle.order.proofs.Chosen.{all-in, some-field}
+use Rattle.order.proofs.Chosen.{some-field}
 
 -- field d is the one of message m in frame f
 pub record FieldOf (l : Layout) (d m f : ℕ) : Type 0 where

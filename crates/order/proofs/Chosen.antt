@@ -1,9 +1,9 @@
 -- More laws of `chosen` and of a test of all, by induction on the list. Of two tests on two lists: where the same elements pass, two by two, the chosen
--- have the same values. Of one: that all numbers of a list pass it is said number by number, and so is that not all fail it. What is asked of all
--- fields of a message or a frame is asked of its cells.
+-- have the same values. Of one: that not all numbers of a list fail it is said by a number. What is asked of all fields of a message or a frame is asked
+-- of its cells.
 -- Assumes nothing.
 use mathlib.Core.Path.{_≡_, refl, sym, ap, ap₂, _∙_}
-use mathlib.Core.Bool.{Bool, true, false, cond, not, and-eq-true-iff, true≢false}
+use mathlib.Core.Bool.{Bool, true, false, cond, not, true≢false}
 use mathlib.Core.List.{List, [], _∷_, map}
 use mathlib.Core.Logic.{_↔_}
 use Prim.Native.Nat.{ℕ, suc, _<_}
@@ -15,7 +15,7 @@ use Rattle.record.specs.declared.Field.{Field as FieldRecord}
 use Rattle.store.specs.Node.{Layout, laidAt}
 use Rattle.own.specs.declared.Owner.{Owner}
 use Rattle.own.specs.Own.{chosen, isIn, cellsOf, fieldsOf}
-use Rattle.own.proofs.Lists.{by-test, same-test, Every, every-map, every-in, every-number}
+use Rattle.own.proofs.Lists.{by-test, same-test, Every, every-map, every-number, all-in}
 use Rattle.own.proofs.Tables.{all-map}
 use Rattle.order.specs.Replicas.{Pairwise}
 
@@ -62,13 +62,6 @@ module _ {A : Type 0} (p p′ : A → Bool) where
 -- ---- one test
 
 module _ {A : Type 0} (p : A → Bool) where
-  pub all-every : (l : List A) → (allOf p l ≡ true) ↔ Every (λ x. p x ≡ true) l
-  unfolding allOf
-  all-every [] = (λ t. tt, λ h. refl)
-  all-every (x ∷ l) =
-      let later = all-every l in
-      (λ t. let both = and-eq-true-iff (p x) (allOf p l) .0 t in (both .0, later .0 (both .1)), λ h. rw (h .0) (later .1 (h .1)))
-
   one-fails : (P : A → Type 0) (l : List A) → Every P l → allOf p l ≡ false → (x : A) × P x × (p x ≡ false)
   unfolding allOf
   one-fails P [] h t = absurd (true≢false t)
@@ -98,13 +91,6 @@ module _ {A : Type 0} (p : A → Bool) where
 pub no-element : {A : Type 0} (l : List A) → Every (λ x. ⊥) l → l ≡ []
 no-element [] h = refl
 no-element (x ∷ l) h = absurd (h .0)
-
-module _ (p : ℕ → Bool) (l : List ℕ) where
-  pub all-in : (allOf p l ≡ true) ↔ ((d : ℕ) → isIn d l ≡ true → p d ≡ true)
-  all-in = (
-    λ t d i. every-in (λ d. p d ≡ true) l d (all-every p l .0 t) i,
-    λ h. all-every p l .1 (every-number (λ d. p d ≡ true) l h),
-  )
 
 some-in : (p : ℕ → Bool) (l : List ℕ) → (allOf (λ d. not (p d)) l ≡ false) ↔ ((d : ℕ) × (isIn d l ≡ true) × (p d ≡ true))
 some-in p l = (

@@ -5,7 +5,7 @@ use Rattle.node.proofs.Starts.{sound-load}
 use Rattle.order.specs.Claims.{Claims}
 use Rattle.order.proofs.OrderOfCalls.{order-of-calls}
 use Rattle.order.proofs.Once.{once}
-use Rattle.order.proofs.Memories.{layout-kept}
+use Rattle.order.proofs.Memories.{layout-kept, ran-means}
 use Rattle.order.proofs.Replicas.{replicas-agree, replicas-values}
 use Rattle.order.proofs.Kept.{kept-sound}
 use Rattle.order.proofs.OwnBits.{own-bits, own-values}
@@ -13,10 +13,14 @@ use Rattle.order.proofs.ReceivedKept.{received-kept}
 use Rattle.order.proofs.EachRound.{each-round}
 use Rattle.order.proofs.EqualBytes.{equal-bytes, closed-bytes, one-file}
 use Rattle.order.proofs.FlagHistory.{flag-history, send-clears}
-use Rattle.order.proofs.FrameOrder.{frame-order as fields-rise}
+use Rattle.order.proofs.FrameOrder.{field-order}
 use Rattle.order.proofs.ThereAndBack.{sent-received, sent-stopped, filtered-received, invalidated-received, held-received, cleared-received}
+use Rattle.order.proofs.LoadedNodes.{loaded}
+use Rattle.order.proofs.MirrorExample.{mirror-example}
+use Rattle.order.proofs.ReplicasExample.{replicas-example}
 use Rattle.order.proofs.Floats.{floats-agree, all-aside, mean-shown}
 use Rattle.order.proofs.Counting.{frame-order, lowest-agreed, some-lowest, average-agreed, agreed-shown}
+use Rattle.order.proofs.Endings.{none-delivered, none-counting, none-agreed, agreed-stopped, not-held, sent-holds, filtered-holds}
 use Rattle.order.proofs.Refusals.{refusal, load-refusal, load-tells}
 use Rattle.order.proofs.StoredCalls.{has-run}
 use Rattle.order.proofs.StoredLoads.{has-load}
@@ -38,7 +42,7 @@ claims =
       replicas-agree = λ n n′ s s′. replicas-agree s s′;
       replicas-values = λ n n′ s s′. replicas-values s s′;
       received-kept = received-kept;
-      field-order = λ l s. fields-rise s;
+      field-order = λ l s. field-order s;
       each-round = λ n n′ s s′. each-round s s′;
       forgotten = λ n s. delivery-closed s;
       equal-bytes = equal-bytes;
@@ -57,6 +61,9 @@ claims =
       held-received = λ s r sender receiver m m′ x x′ mirror fresh valid passes b ok p.
           held-received sender receiver mirror fresh b ok p valid passes;
       cleared-received = λ s r sender receiver m m′ x x′ mirror fresh cleared b ok p. cleared-received sender receiver mirror fresh b ok p cleared;
+      nodes-loaded = loaded;
+      mirror-example = mirror-example;
+      replicas-example = replicas-example;
       floats-agree = floats-agree;
       all-aside = λ n s m l received float counting none p. all-aside s m l received float p counting none;
       mean-shown = λ n s m l received float average through v k e p. mean-shown s m l received float p average through v k e;
@@ -65,10 +72,18 @@ claims =
       some-lowest = λ n s. some-lowest s;
       average-agreed = λ n s. average-agreed s;
       agreed-shown = λ n s. agreed-shown s;
+      none-delivered = λ n s. none-delivered s;
+      none-counting = λ n s. none-counting s;
+      none-agreed = λ n s. none-agreed s;
+      agreed-stopped = λ n s. agreed-stopped s;
+      not-held = λ n s. not-held s;
+      sent-holds = λ n s. sent-holds s;
+      filtered-holds = filtered-holds;
       refusal = refusal;
       load-refusal = load-refusal;
       load-tells = load-tells;
       has-run = has-run;
+      run-means = λ b memory l r e ran. let means = ran-means b memory l r e ran in (means .memory, means .seen, means .node);
       has-load = has-load;
       order-example = order-example;
       none-loaded = none-loaded;

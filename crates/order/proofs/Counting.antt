@@ -1,10 +1,10 @@
 -- The frame order of the counting instances, what they agree on, and what a receive shows of it. The fields of a message stand in its cells in the order
 -- of their numbers, and their frames rise with them; so of those that take part the first has the lowest frame, and pick any takes the first. A mean is
--- refused only to what is no group, and the instances of a sound message are one: eight at most, each of them in its range.
+-- refused only to what are no message values, and the instances of a sound message are: eight at most, each in its range.
 -- Assumes nothing.
 use mathlib.Core.Path.{_≡_, refl, sym, ap, _∙_}
 use mathlib.Core.Bool.{Bool, true, false, not, cond, _&&_, and-true, or-true, true≢false, false≢true}
-use mathlib.Core.List.{List, [], _∷_, map}
+use mathlib.Core.List.{List, [], _∷_, map, map-map}
 use mathlib.Core.Logic.{_↔_, _⊎_, inl, inr}
 use Prim.Native.Nat.{ℕ, _<_, _≤_}
 use native.Mathlib.Decide.{decLt}
@@ -26,7 +26,7 @@ use Rattle.store.specs.Node.{Node, isSent, isFloat, messageAt, laidAt, stateAt}
 use Rattle.message.specs.Messages.{passesNow, agreedBy, agreedOn}
 use Rattle.own.specs.declared.Owner.{Owner}
 use Rattle.own.specs.Own.{chosen, isIn, Rising, cellsOf, fieldsOf}
-use Rattle.own.proofs.Lists.{by-test, in-cases, in-chosen}
+use Rattle.own.proofs.Lists.{by-test, in-cases, every-number, in-chosen}
 use Rattle.own.proofs.Owners.{fields-named, cells-rise}
 use Rattle.closing.specs.Closing.{counts, valueIn, instances}
 use Rattle.node.specs.Sound.{Sound}
@@ -36,6 +36,7 @@ use Rattle.calls.specs.Contracts.{close, receive, value, sees, seenOf, next}
 use Rattle.order.specs.Counting.{CountingField, frameNumber, carriedValue, InFrameOrder, TakesPart, HasLowestFrame}
 use Rattle.order.proofs.Chosen.{chosen-some, some-field}
 use Rattle.order.proofs.Floats.{floats-agree}
+use Rattle.order.proofs.FrameOrder.{images-rise}
 use Rattle.order.proofs.Shown.{is-received, passed-shown}
 
 -- ---- lists
@@ -86,23 +87,6 @@ rising-chosen p [] rises = tt
 rising-chosen p (e ∷ l) rises =
     let later = rising-chosen p l (rises .1) in
     by-test Rising (p e) (λ t. (λ a i. rises .0 a (in-chosen p a l .0 i .0), later)) (λ t. later)
-
--- and so do the images of a list by a function that rises on it
-in-images : (f : ℕ → ℕ) (a : ℕ) (l : List ℕ) → isIn a (map f l) ≡ true → (e : ℕ) × (isIn e l ≡ true) × (f e ≡ a)
-unfolding isIn
-in-images f a [] i = absurd (true≢false (sym i))
-in-images f a (e ∷ l) i =
-    in-cases a (f e) (map f l) i (λ same. (e, rw (eq-eqb e e refl) refl, sym same))
-    (λ after. let (b, j, u) = in-images f a l after in (b, rw j (or-true (eqb b e)), u))
-
-rising-images : (f : ℕ → ℕ) (l : List ℕ) → Rising l → ((d e : ℕ) → isIn d l ≡ true → isIn e l ≡ true → d < e → f d < f e) → Rising (map f l)
-unfolding isIn
-rising-images f [] rises grows = tt
-rising-images f (d ∷ l) rises grows = (
-  λ a i. let (e, j, u) = in-images f a l i in
-      rw u at (grows d e (rw (eq-eqb d d refl) refl) (rw j (or-true (eqb e d))) (rises .0 e j)),
-  rising-images f l (rises .1) (λ x y i j. grows x y (rw i (or-true (eqb x d))) (rw j (or-true (eqb y d)))),
-)
 
 -- what is chosen of images is the images of what is chosen
 chosen-images : {A B : Type 0} (f : A → B) (p : B → Bool) (l : List A) → chosen p (map f l) ≡ map f (chosen (λ x. p (f x)) l)
@@ -183,7 +167,7 @@ module _ {n : Node} (s : Sound n) (m : ℕ) where
   in-own : (d : ℕ) → CountingField n m d → isIn d own ≡ true
   in-own d t = fields-named (s .layout) (Owner.Message m) d .1 (t .field, eq-eqb _ m (t .message))
 
-  own-counting : (d : ℕ) → isIn d own ≡ true → counts n (laid d) ≡ true → CountingField n m d
+  pub own-counting : (d : ℕ) → isIn d own ≡ true → counts n (laid d) ≡ true → CountingField n m d
   own-counting d i t =
       let (field, names) = fields-named (s .layout) (Owner.Message m) d .0 i in
       record { field = field; message = eqb-true _ m names; counting = t }
@@ -202,14 +186,10 @@ module _ {n : Node} (s : Sound n) (m : ℕ) where
   frame-order = (
     counting,
     record {
-      all = λ d. (λ i. let (mine, t) = in-chosen p d own .0 i in own-counting d mine t, λ t. in-chosen p d own .1 (in-own d t, t .counting));
-      rising =
-          rising-images (frameNumber n) counting (rising-chosen p own own-rise)
-          (λ d e i j. let (a, t) = in-chosen p d own .0 i in
-          let (b, u) = in-chosen p e own .0 j in
-          frames-rise d e (own-counting d a t) (own-counting e b u));
+      all = λ d. (each d, λ t. in-chosen p d own .1 (in-own d t, t .counting));
+      rising = images-rise (frameNumber n) (CountingField n m) frames-rise counting (every-number _ counting each) (rising-chosen p own own-rise);
     },
-    ap (map (valueIn n g)) (chosen-images laid (counts n) own) ∙ map-twice laid (valueIn n g) counting,
+    ap (map (valueIn n g)) (chosen-images laid (counts n) own) ∙ map-map (valueIn n g) laid counting,
   )
     where
       p : ℕ → Bool
@@ -218,9 +198,8 @@ module _ {n : Node} (s : Sound n) (m : ℕ) where
       counting : List ℕ
       counting = chosen p own
 
-      map-twice : {A B C : Type 0} (f : A → B) (h : B → C) (l : List A) → map h (map f l) ≡ map (λ x. h (f x)) l
-      map-twice f h [] = refl
-      map-twice {C = C} f h (x ∷ l) = ap (λ (r : List C). h (f x) ∷ r) (map-twice f h l)
+      each : (d : ℕ) → isIn d counting ≡ true → CountingField n m d
+      each d i = let (mine, t) = in-chosen p d own .0 i in own-counting d mine t
 
   -- ---- pick any
 
@@ -278,7 +257,7 @@ module _ {n : Node} (s : Sound n) (m : ℕ) where
 
   -- ---- the mean, and what is shown
 
-  some-instance : (d : ℕ) → CountingField n m d → 0 < length (instances n m)
+  pub some-instance : (d : ℕ) → CountingField n m d → 0 < length (instances n m)
   unfolding instances
   some-instance d t =
       rw length-map

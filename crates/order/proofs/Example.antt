@@ -12,31 +12,11 @@ use lib.IntN.{ℤ, pos}
 use borrow.Author.Tests.{ltb-true}
 use Rattle.whole.specs.Whole.{allOf}
 use Rattle.packing.specs.Places.{bitOf, withBit, putBit, placeOf, frameBit, bitPlaces, places, inFrame, placesIn, packed}
-use Rattle.packing.specs.Values.{isWidth, least, greatest, inRange, patternOf, extend, extended}
+use Rattle.packing.specs.Values.{isWidth, least, greatest, inRange, patternOf}
 use Rattle.filter.specs.Filter.{rules, passes}
 use Rattle.record.specs.Numbers.{tally, anyBelow, leastBelow}
-use Rattle.record.specs.Records.{byteAt, wordAt, isFrame, isMessage, isField, frameAt, messageAt, fieldAt, pairBelow}
-use Rattle.ranges.specs.Ranges.{wrongIf, wordFits, wordFinding, frameFinding, messageFinding, fieldFinding}
-use Rattle.ranges.specs.Ranges.{findingOf, findingAt, wrongAt, lowestFault, rangeFault}
-use Rattle.record.specs.Runs.{pastEnd, meet}
-use Rattle.layout.specs.Counts.{countsBefore}
-use Rattle.layout.specs.Verdict.{
-  sizeFault,
-  orderFault,
-  refFault,
-  isFieldOf,
-  unlike,
-  groupFault,
-  clashAt,
-  placeFault,
-  fails,
-  noField,
-  complete,
-  failsAt,
-  judged,
-  verdict,
-}
-use Rattle.layout.specs.declared.Verdict.{Verdict}
+use Rattle.record.specs.Records.{byteAt, wordAt, frameAt, messageAt, fieldAt}
+use Rattle.layout.specs.Paper.{recordOf}
 use Rattle.store.specs.Node.{Layout, Node, nodeOf}
 use Rattle.start.specs.Start.{
   table,
@@ -60,13 +40,12 @@ use Rattle.message.specs.Messages.{canHold, passesNow, put, offered}
 use Rattle.message.specs.Fields.{statusPlaces, writes}
 use Rattle.own.specs.Own.{chosen, owns, cellsOf}
 use Rattle.node.specs.Calls.{Outcome, sendAnswer, sendOf, suppressed, assembleAnswer, written, assembleOf, assembled}
-use Rattle.node.specs.Load.{loadOf}
-use Rattle.own.proofs.Lists.{every-more}
+use Rattle.own.proofs.Lists.{every-more, all-every}
 use Rattle.calls.specs.Contracts.{send, assemble, deliver, Memory, Loads}
 use Rattle.order.specs.Order.{Result, Ran, someOf, carries, results, dependent, Numbered, In, there, Before, OwnNumbers, Reordered}
-use Rattle.order.specs.Example.{sentFile, receivedFile, sends0, sends1, assembles0, wasSent, wasAssembled, MayChange, MayNotChange}
+use Rattle.order.specs.Example.{sentFile, sends0, sends1, assembles0, wasSent, wasAssembled, MayChange, MayNotChange}
 use Rattle.order.specs.Runs.{BringsBytes, EachBringsBytes}
-use Rattle.order.proofs.Chosen.{all-every}
+use Rattle.order.proofs.LoadedNodes.{accepted, loads}
 use Rattle.order.proofs.Constructors.{clash}
 use Rattle.order.proofs.OrderOfCalls.{order-of-calls}
 use Rattle.order.proofs.Stored.{AllBytes, all-bytes}
@@ -105,24 +84,13 @@ swapped l a b h u =
 
 -- ---- the loaded node
 
-pub accepted : (verdict sentFile ≡ Verdict.Accepted 2 2 2) × (verdict receivedFile ≡ Verdict.Accepted 1 1 1)
-unfolding
-    sentFile receivedFile
-    extended isWidth extend
-    tally anyBelow
-    byteAt wordAt isFrame isMessage isField frameAt messageAt fieldAt pairBelow countsBefore
-    wrongIf wordFits wordFinding frameFinding messageFinding fieldFinding findingOf findingAt wrongAt lowestFault rangeFault
-    sizeFault orderFault refFault isFieldOf unlike groupFault
-    pastEnd meet clashAt placeFault fails noField complete failsAt judged verdict
-accepted = (refl, refl)
-
 abbrev loaded : Node
 loaded = startOf sentFile 2 2 2
 
 -- frame 0 carries message 0 and not message 1
 carries-one : (carries (loaded .layout) 0 0 ≡ true) × (carries (loaded .layout) 0 1 ≡ false)
 unfolding
-    sentFile tally leastBelow anyBelow byteAt frameAt messageAt fieldAt
+    sentFile recordOf tally leastBelow anyBelow byteAt frameAt messageAt fieldAt
     startLayout startFrames startIndex startMessages startFields
     table selected laidFrame frameByFrame startMessageOrNone startMessage startLaid
     someOf cellsOf chosen owns
@@ -134,7 +102,7 @@ shown : (results loaded (sends1 ∷ assembles0 ∷ []) ≡ wasSent 1 ∷ wasAsse
     × (results loaded (sends0 ∷ assembles0 ∷ []) ≡ wasSent 0 ∷ wasAssembled 5 ∷ [])
     × (results loaded (assembles0 ∷ sends0 ∷ []) ≡ wasAssembled 0 ∷ wasSent 0 ∷ [])
 unfolding
-    sentFile tally leastBelow anyBelow byteAt wordAt frameAt messageAt fieldAt
+    sentFile recordOf tally leastBelow anyBelow byteAt wordAt frameAt messageAt fieldAt
     startLayout startState startFrames startIndex startMessages startStates startFields
     table selected laidFrame frameByFrame startMessageOrNone startMessage stateOrNone startLaid
     cellsOf chosen owns
@@ -146,7 +114,7 @@ shown = (refl, refl, refl, refl)
 -- ---- on memory
 
 file-bytes : AllBytes sentFile
-unfolding sentFile allOf
+unfolding sentFile recordOf allOf
 file-bytes =
     record {
       each = every-more (λ a. ltb a 256 ≡ true) (λ a. a < 256) (λ a. ltb-true a 256) sentFile (all-every (λ a. ltb a 256) sentFile .0 refl);
@@ -175,8 +143,8 @@ module _ (b : List ℕ) (memory : Memory b) (node : nodeOf b ≡ loaded) where
 
   may-change : MayChange b
   may-change =
-      let (one, run) = runs sends1 assembles0 _ (send-brings 1 (pos 7)) (assemble-brings 0 (0 ∷ [])) (shown .0) in
-      let (other, run′) = runs assembles0 sends1 _ (assemble-brings 0 (0 ∷ [])) (send-brings 1 (pos 7)) (shown .1) in
+      let (one, run) = runs sends1 assembles0 _ (send-brings 1 (pos 7)) (assemble-brings 0 (255 ∷ [])) (shown .0) in
+      let (other, run′) = runs assembles0 sends1 _ (assemble-brings 0 (255 ∷ [])) (send-brings 1 (pos 7)) (shown .1) in
       let layout = ap (λ (n : Node). n .layout) node in
       let moves = subst (λ (l : Layout). Reordered l (sends1 ∷ assembles0 ∷ []) (assembles0 ∷ sends1 ∷ [])) (sym layout)
       (swapped (loaded .layout) sends1 assembles0 (λ e. omega arith) (carries-one .1)) in
@@ -192,16 +160,15 @@ module _ (b : List ℕ) (memory : Memory b) (node : nodeOf b ≡ loaded) where
   may-not-change =
       record {
         carried = ap (λ (n : Node). carries (n .layout) 0 0) node ∙ carries-one .0;
-        send-first = runs sends0 assembles0 _ (send-brings 0 (pos 5)) (assemble-brings 0 (0 ∷ [])) (shown .2);
-        assemble-first = runs assembles0 sends0 _ (assemble-brings 0 (0 ∷ [])) (send-brings 0 (pos 5)) (shown .3);
+        send-first = runs sends0 assembles0 _ (send-brings 0 (pos 5)) (assemble-brings 0 (255 ∷ [])) (shown .2);
+        assemble-first = runs assembles0 sends0 _ (assemble-brings 0 (255 ∷ [])) (send-brings 0 (pos 5)) (shown .3);
       }
 
 -- on every memory the file loads, and then both hold
 pub order-example : (b : List ℕ) → Memory b → (e : List ℕ) × Memory e × Loads b sentFile 0 e × MayChange e × MayNotChange e
-unfolding loadOf
 order-example b memory =
     let (e, kept, does) = has-load b sentFile memory (all-bytes sentFile file-bytes) in
-    let load : loadOf (nodeOf b) sentFile ≡ record { answer = 0; node = loaded } = rw (accepted .0) refl in
+    let load = loads sentFile 2 2 2 (accepted .7) (nodeOf b) in
     let node : nodeOf e ≡ loaded = ap (λ (o : Outcome). o .node) (does ∙ load) in
     let loads : Loads b sentFile 0 e = subst (λ (a : ℕ). Loads b sentFile a e) (ap (λ (o : Outcome). o .answer) load) does in
     (e, kept, loads, may-change e kept node, may-not-change e kept node)

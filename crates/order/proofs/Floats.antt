@@ -25,8 +25,8 @@ use Rattle.closing.specs.Closing.{instances, isReceived}
 use Rattle.node.specs.Sound.{Sound}
 use Rattle.closing.proofs.Instances.{instances-few, agreed-in-message}
 use Rattle.closing.proofs.Rounds.{closed-some}
-use Rattle.calls.specs.Contracts.{close, receive, value, seenOf, next}
-use Rattle.order.specs.Floats.{noneShown, meanShown}
+use Rattle.calls.specs.Contracts.{close, receive, value, sees, seenOf, next}
+use Rattle.order.specs.Floats.{meanShown}
 use Rattle.order.proofs.Shown.{is-received, closed-shown, passed-shown}
 
 pub floats-agree : (n : Node) (m : ℕ) → isFloat (messageAt (n .layout) m) ≡ true
@@ -68,11 +68,11 @@ module _ {n : Node} (s : Sound n) (m : ℕ) (l : m < n .layout .message-number) 
   heard = is-received (s .layout) m l received
 
   shows-none : 0 < length (instances n m) → leftAgreed (g .agreement) (leftOf (instances n m)) ≡ NoResult
-      → seenOf (next n close) (receive m p) ≡ noneShown p
+      → seenOf (next n close) (receive m p) ≡ sees 20 (value p)
   shows-none h e =
       closed-shown s m heard p (withStatus 20 before) (closed-some n m before h ∙ ap (agreedOn g before) (floats-agree n m float ∙ e))
 
-  pub all-aside : (instances n m ≡ [] → ⊥) → leftOf (instances n m) ≡ [] → seenOf (next n close) (receive m p) ≡ noneShown p
+  pub all-aside : (instances n m ≡ [] → ⊥) → leftOf (instances n m) ≡ [] → seenOf (next n close) (receive m p) ≡ sees 20 (value p)
   all-aside counting none = shows-none (some-of (instances n m) counting) (ap (leftAgreed (g .agreement)) none ∙ none-agree (g .agreement))
     where
       some-of : (k : List ℤ) → (k ≡ [] → ⊥) → 0 < length k
@@ -97,7 +97,7 @@ module _ {n : Node} (s : Sound n) (m : ℕ) (l : m < n .layout .message-number) 
       agreed = mean-agreed (g .agreement) (leftOf (instances n m)) v k average e
 
       go : (b : Bool) → aside x ≡ b
-          → seenOf (next n close) (receive m p) ≡ cond b (noneShown p) (record { answer = 0; lent = value (pos x) })
+          → seenOf (next n close) (receive m p) ≡ cond b (sees 20 (value p)) (sees 0 (value (pos x)))
       go true a = shows-none counting (agreed ∙ rw a refl)
       go false a =
           let mean = floats-agree n m float ∙ agreed ∙ finite a in

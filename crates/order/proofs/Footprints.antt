@@ -97,7 +97,7 @@ effect l (deliver f valid d) = record { deliveries = λ y. cond valid (kept y d)
 effect l close = on-stages (λ t. t)
 effect l (receive m p) = on-stages (λ t. t)
 
-abbrev pub spread : Layout → Name → Effect → State → State
+abbrev spread : Layout → Name → Effect → State → State
 spread l a g s =
     record {
       deliveries = changed (λ j. writes l a (deliveryCell j)) (λ j. g .deliveries) 0 (s .deliveries);

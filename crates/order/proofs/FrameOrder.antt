@@ -3,7 +3,7 @@
 -- Assumes nothing.
 use mathlib.Core.Path.{_≡_, refl, sym, ap, _∙_}
 use mathlib.Core.Bool.{Bool, true, false, cond}
-use mathlib.Core.List.{List, [], _∷_, map}
+use mathlib.Core.List.{List, [], _∷_, map, map-map}
 use mathlib.Core.Logic.{⊎-elim}
 use Prim.Native.Nat.{ℕ, _<_}
 use native.Mathlib.Omega.{arith}
@@ -22,7 +22,7 @@ use Rattle.order.proofs.Chosen.{no-element}
 -- ---- lists
 
 module _ {A : Type 0} where
-  pub every-both : (P Q R : A → Type 0) → ((x : A) → P x → Q x → R x) → (l : List A) → Every P l → Every Q l → Every R l
+  every-both : (P Q R : A → Type 0) → ((x : A) → P x → Q x → R x) → (l : List A) → Every P l → Every Q l → Every R l
   every-both P Q R f [] h k = tt
   every-both P Q R f (x ∷ l) h k = (f x (h .0) (k .0), every-both P Q R f l (h .1) (k .1))
 
@@ -36,21 +36,20 @@ module _ {A : Type 0} where
   every-image f P (x ∷ l) h = (h .0, every-image f P l (h .1))
 
   -- an element of the images of numbers is the image of one of them
-  pub image-of : (f : ℕ → A) {x : A} (P : ℕ → Type 0) (l : List ℕ) → Every P l → In x (map f l) → (d : ℕ) × P d × (f d ≡ x)
+  image-of : (f : ℕ → A) {x : A} (P : ℕ → Type 0) (l : List ℕ) → Every P l → In x (map f l) → (d : ℕ) × P d × (f d ≡ x)
   image-of f P [] h i = absurd (in-none i)
   image-of f P (d ∷ l) h i = ⊎-elim (λ same. (d, h .0, sym same)) (λ j. image-of f P l (h .1) j) (in-cases i)
 
-module _ {A : Type 0} where
-  -- images of rising numbers rise where each step does
-  images-rise : (f : ℕ → A) (g : A → ℕ) (P : ℕ → Type 0) → ((d e : ℕ) → P d → P e → d < e → g (f d) < g (f e)) → (l : List ℕ) → Every P l → Rising l
-      → Rising (map g (map f l))
-  images-rise f g P step [] h r = tt
-  images-rise f g P step (d ∷ l) h r =
-      let above = every-both P (λ e. d < e) (λ e. g (f d) < g (f e)) (λ e k less. step d e (h .0) k less) l (h .1) (every-number _ l (r .0)) in (
-        λ e i. every-in (λ e. g (f d) < e) (map g (map f l)) e (every-map g _ (map f l) (every-map f _ l above)) i,
-        images-rise f g P step l (h .1) (r .1),
-      )
+-- images of rising numbers rise where each step does
+pub images-rise : (f : ℕ → ℕ) (P : ℕ → Type 0) → ((d e : ℕ) → P d → P e → d < e → f d < f e) → (l : List ℕ) → Every P l → Rising l → Rising (map f l)
+images-rise f P step [] h r = tt
+images-rise f P step (d ∷ l) h r =
+    let above = every-both P (λ e. d < e) (λ e. f d < f e) (λ e k less. step d e (h .0) k less) l (h .1) (every-number _ l (r .0)) in (
+      λ e i. every-in (λ e. f d < e) (map f l) e (every-map f _ l above) i,
+      images-rise f P step l (h .1) (r .1),
+    )
 
+module _ {A : Type 0} where
   -- of elements whose images rise, those that pass a test all have the image of x, and so none but x is chosen
   pub chosen-alone : (g : A → ℕ) (p : A → Bool) {x : A} (l : List A) → Rising (map g l) → In x l → Every (λ y. p y ≡ true → g y ≡ g x) l
       → chosen p l ≡ cond (p x) (x ∷ []) []
@@ -90,7 +89,8 @@ module _ {l : Layout} (s : SoundLayout l) (m : ℕ) where
   pub its-cell : {x : FieldRecord} → In x (fieldsOf l (Owner.Message m)) → (d : ℕ) × Its d × (laidAt l d ≡ x)
   its-cell i = image-of (laidAt l) Its (cellsOf l (Owner.Message m)) all-its i
 
-  pub frame-order : Rising (map (λ x. x .frame) (fieldsOf l (Owner.Message m)))
-  frame-order =
-      images-rise (laidAt l) (λ x. x .frame) Its (λ d e k n less. s .rising d e less (n .0) (k .1 ∙ sym (n .1))) (cellsOf l (Owner.Message m)) all-its
-      (cells-rise s (Owner.Message m))
+  pub field-order : Rising (map (λ x. x .frame) (fieldsOf l (Owner.Message m)))
+  field-order =
+      rw (map-map (λ (x : FieldRecord). x .frame) (laidAt l) (cellsOf l (Owner.Message m)))
+      (images-rise (λ d. laidAt l d .frame) Its (λ d e k n less. s .rising d e less (n .0) (k .1 ∙ sym (n .1))) (cellsOf l (Owner.Message m)) all-its
+      (cells-rise s (Owner.Message m)))

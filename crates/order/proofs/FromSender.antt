@@ -21,7 +21,7 @@ use Rattle.message.specs.Messages.{canHold, passesNow, filtered}
 use Rattle.message.specs.Fields.{statusPlaces}
 use Rattle.own.specs.declared.Owner.{Owner}
 use Rattle.own.specs.Own.{chosen, isIn, cellsOf, fieldsOf}
-use Rattle.own.proofs.Lists.{Every}
+use Rattle.own.proofs.Lists.{Every, all-every}
 use Rattle.own.proofs.Owners.{fields-named}
 use Rattle.node.specs.Calls.{assembleAnswer, assembled}
 use Rattle.closing.specs.Closing.{came, statusSet, counts, valueIn, instances, noneCame, closedState}
@@ -32,8 +32,7 @@ use Rattle.closing.proofs.Rounds.{closed-none}
 use Rattle.calls.specs.Contracts.{close, receive, value, sees, seenOf, next}
 use Rattle.order.specs.Mirror.{Mirrors, goesValid}
 use Rattle.order.proofs.Alone.{alone}
-use Rattle.order.proofs.Chosen.{all-every}
-use Rattle.order.proofs.FrameOrder.{every-at, its-cell, frame-order, chosen-alone}
+use Rattle.order.proofs.FrameOrder.{every-at, its-cell, field-order, chosen-alone}
 use Rattle.order.proofs.Shown.{closed-shown, passed-shown, stopped-shown}
 
 one-is-true : (t : Bool) → eqb (cond t 1 0) 1 ≡ t
@@ -123,7 +122,7 @@ module _ {s r : Node} (sender : Sound s) (receiver : Sound r) {m m′ : ℕ} {x 
     -- it counts exactly if m went out as valid, and no other does
     counting : (t : Bool) → goesValid g out ≡ t → chosen (counts r) fields ≡ cond t (x′ ∷ []) []
     unfolding counts
-    counting t e = rw (here, status-came, e) at (chosen-alone (λ y. y .frame) (counts r) fields (frame-order (receiver .layout) m′) (mirror .field′) others)
+    counting t e = rw (here, status-came, e) at (chosen-alone (λ y. y .frame) (counts r) fields (field-order (receiver .layout) m′) (mirror .field′) others)
 
     some-came : noneCame r m′ ≡ false
     unfolding noneCame

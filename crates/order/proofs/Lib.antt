@@ -29,9 +29,10 @@ pub mod FromSender
 pub mod ThereAndBack
 pub mod Floats
 pub mod Counting
-pub mod Example
+pub mod Endings
 pub mod LoadedNodes
+pub mod Example
 pub mod RoundExample
-pub mod Claims
 pub mod MirrorExample
 pub mod ReplicasExample
+pub mod Claims

@@ -9,7 +9,7 @@ use Rattle.store.specs.Node.{Node, layoutSize, layoutOf, nodeOf}
 use Rattle.store.proofs.RoundTrip.{same-memory, same-layout-bytes}
 use Rattle.node.specs.Calls.{Outcome, left}
 use Rattle.calls.specs.Contracts.{Call, send, invalidate, assemble, consumed, readFlag, deliver, close, receive}
-use Rattle.calls.specs.Contracts.{Lent, Seen, seenOf, next, Memory, Does}
+use Rattle.calls.specs.Contracts.{Lent, Seen, sees, seenOf, next, Memory, Does}
 use Rattle.order.specs.Order.{Numbered, Result, end, results, Ran, done, step}
 use Rattle.order.proofs.Kept.{kept-layout}
 
@@ -25,9 +25,6 @@ pub record Means (s : Seen) (e : List ℕ) (shown : Seen) (n : Node) : Type 0 wh
   pub node : nodeOf e ≡ n
 
 module _ (s : Seen) (e : List ℕ) where
-  abbrev sees : ℕ → Lent → Seen
-  sees a l = record { answer = a; lent = l }
-
   by-outcome : (o : Outcome) (l : Lent) → (left (s .answer) e ≡ o) × (s .lent ≡ l) → Means s e (sees (o .answer) l) (o .node)
   by-outcome o l d = record { seen = ap₂ sees (ap (λ (x : Outcome). x .answer) (d .0)) (d .1); node = ap (λ (x : Outcome). x .node) (d .0) }
 

@@ -1,16 +1,15 @@
--- Values that go from one loaded node to another, in which the message has another number: each of the five claims of there and back has its case.
+-- Values that go from one loaded node to another, in which the message has another number: each of the six claims of there and back has its case.
 -- Assumes nothing.
-use mathlib.Core.Path.{_≡_, refl}
-use mathlib.Core.List.{[], _∷_}
+use mathlib.Core.Path.{refl}
+use mathlib.Core.List.{List, [], _∷_}
 use lib.IntN.{ℤ, pos}
 use Rattle.whole.specs.Whole.{allOf}
-use Rattle.packing.specs.Values.{isWidth, least, greatest, inRange, valueOf}
+use Rattle.packing.specs.Values.{isWidth, least, greatest, inRange, valueOf, patternOf}
 use Rattle.filter.specs.Filter.{compared, bound, rules, passes}
 use Rattle.record.specs.declared.Field.{Field as FieldRecord}
 use Rattle.record.specs.Numbers.{tally, anyBelow, leastBelow}
 use Rattle.record.specs.Records.{byteAt, wordAt, frameAt, messageAt, fieldAt}
-use Rattle.layout.specs.Paper.{filled}
-use Rattle.store.specs.Node.{Node}
+use Rattle.layout.specs.Paper.{recordOf}
 use Rattle.start.specs.Start.{
   table,
   selected,
@@ -30,13 +29,15 @@ use Rattle.start.specs.Start.{
 }
 use Rattle.message.specs.Messages.{canHold, passesNow, put, offered}
 use Rattle.own.specs.Own.{chosen, owns, cellsOf}
-use Rattle.node.specs.Calls.{sendAnswer, sendOf, invalidateAnswer, invalidateOf, suppressed, assembleAnswer, assembleOf, assembled}
+use Rattle.node.specs.Calls.{sendAnswer, sendOf, invalidateAnswer, invalidateOf, suppressed, assembleAnswer, assembleOf, consumedOf, consumedAnswer}
 use Rattle.closing.specs.Closing.{came, counts, instances, isReceived}
-use Rattle.calls.specs.Contracts.{send, invalidate, receive, value, Seen, sees, seenOf, next}
+use Rattle.calls.specs.Contracts.{Call, send, assemble, consumed}
 use Rattle.order.specs.Order.{here}
-use Rattle.order.specs.Mirror.{Mirrors, afterRound}
-use Rattle.order.proofs.LoadedNodes.{senderFile, amongFile, sender, receiverAmong, sender-sound, among-sound}
-use Rattle.order.proofs.ThereAndBack.{sent-received, sent-stopped, filtered-received, invalidated-received, cleared-received}
+use Rattle.order.specs.Mirror.{Mirrors}
+use Rattle.order.specs.LoadedNodes.{senderFile, amongFile, sender, receiverAmong, PassedOn}
+use Rattle.order.proofs.LoadedNodes.{sender-sound, among-sound}
+use Rattle.order.proofs.Kept.{final-sound}
+use Rattle.order.proofs.ThereAndBack.{sent-received, sent-stopped, filtered-received, invalidated-received, held-received, cleared-received}
 
 -- the message's field in the sender, and in the receiver
 abbrev field : FieldRecord
@@ -47,7 +48,7 @@ field′ = record { message = 1; frame = 1; start = 3; status = 1; place = 0 }
 
 mirror : Mirrors (sender .layout) (receiverAmong .layout) 0 1 field field′
 unfolding
-    sender receiverAmong senderFile amongFile filled byteAt wordAt frameAt messageAt fieldAt tally anyBelow leastBelow
+    sender receiverAmong senderFile amongFile recordOf byteAt wordAt frameAt messageAt fieldAt tally anyBelow leastBelow
     startLayout startFrames startIndex startMessages startFields table selected laidFrame frameByFrame startMessageOrNone startMessage startLaid
     chosen cellsOf owns isReceived
 mirror =
@@ -60,28 +61,23 @@ mirror =
       lies = record { length = refl; order = refl; start = refl; status = refl; place = refl };
     }
 
--- frame 0 of a node over two bytes of zeros, delivered as frame 1; and what then is received
-abbrev shown : Node → ℤ → Seen
-shown n p = seenOf (afterRound receiverAmong 1 (assembled n 0 (0 ∷ 0 ∷ []))) (receive 1 p)
+-- 677 is sent and goes out
+abbrev again : List Call
+again = send 0 (pos 677) ∷ assemble 0 (255 ∷ 255 ∷ []) ∷ consumed 0 ∷ []
 
--- 677 is received; 701, which the receiver's filter does not pass, is answered 21; 0, which the sender's does not pass, 22, and so is the message after
--- an invalidate, and at start
-pub played : (p : ℤ)
-    → (shown (next sender (send 0 (pos 677))) p ≡ sees 0 (value (pos 677)))
-    × (shown (next sender (send 0 (pos 701))) p ≡ sees 21 (value p))
-    × (shown (next sender (send 0 (pos 0))) p ≡ sees 22 (value p))
-    × (shown (next sender (invalidate 0)) p ≡ sees 22 (value p))
-    × (shown sender p ≡ sees 22 (value p))
+pub mirror-example : (p : ℤ) → PassedOn p
 unfolding
-    sender receiverAmong senderFile amongFile filled byteAt wordAt frameAt messageAt fieldAt tally anyBelow leastBelow
+    sender receiverAmong senderFile amongFile recordOf byteAt wordAt frameAt messageAt fieldAt tally anyBelow leastBelow
     startLayout startState startFrames startIndex startMessages startStates startFields
     table selected laidFrame frameByFrame startMessageOrNone startMessage stateOrNone startLaid
-    chosen cellsOf owns allOf sendOf sendAnswer invalidateOf invalidateAnswer canHold inRange isWidth least greatest valueOf passesNow passes rules compared bound
-    offered put assembleOf assembleAnswer suppressed instances counts came
-played p = (
-  sent-received sender-sound among-sound mirror refl (0 ∷ 0 ∷ []) p (pos 677) refl refl refl refl,
-  sent-stopped sender-sound among-sound mirror refl (0 ∷ 0 ∷ []) p (pos 701) refl refl refl refl,
-  filtered-received sender-sound among-sound mirror refl (0 ∷ 0 ∷ []) p (pos 0) refl refl refl,
-  invalidated-received sender-sound among-sound mirror refl (0 ∷ 0 ∷ []) p refl refl,
-  cleared-received sender-sound among-sound mirror refl (0 ∷ 0 ∷ []) refl p refl,
-)
+    chosen cellsOf owns allOf sendOf sendAnswer invalidateOf invalidateAnswer canHold inRange isWidth least greatest valueOf patternOf passesNow passes rules compared bound
+    offered put assembleOf assembleAnswer suppressed consumedOf consumedAnswer instances counts came
+mirror-example p =
+    record {
+      received = sent-received sender-sound among-sound mirror refl (255 ∷ 255 ∷ []) p (pos 677) refl refl refl refl;
+      held = held-received (final-sound sender-sound again) among-sound mirror refl (255 ∷ 255 ∷ []) refl p refl refl;
+      stopped = sent-stopped sender-sound among-sound mirror refl (255 ∷ 255 ∷ []) p (pos 701) refl refl refl refl;
+      filtered = filtered-received sender-sound among-sound mirror refl (255 ∷ 255 ∷ []) p (pos 0) refl refl refl;
+      invalidated = invalidated-received sender-sound among-sound mirror refl (255 ∷ 255 ∷ []) p refl refl;
+      at-start = cleared-received sender-sound among-sound mirror refl (255 ∷ 255 ∷ []) refl p refl;
+    }

@@ -1,25 +1,24 @@
 -- Own bits alone: replicas in one layout. A message lies like itself, and of two nodes that agree on its own bits it came alike to both. A message
 -- that is not received shows no value, and a closing leaves its own.
 -- Assumes nothing.
-use mathlib.Core.Path.{_≡_, refl, sym, subst, _∙_}
+use mathlib.Core.Path.{_≡_, refl, subst}
 use mathlib.Core.Bool.{Bool, true, false, cond, not, _&&_, true≢false}
 use Prim.Native.Nat.{ℕ}
 use lib.Dec.{eqb, ltb}
 use lib.IntN.{ℤ}
 use Rattle.record.specs.declared.Field.{Field as FieldRecord}
-use Rattle.store.specs.declared.Message.{Message}
 use Rattle.store.specs.Node.{Layout, State, Node, messageCount, isSent, messageAt, laidAt, stateAt, nodeWith}
 use Rattle.own.specs.declared.Owner.{Owner}
 use Rattle.own.specs.Own.{isIn, cellsOf, fieldsOf}
 use Rattle.node.specs.Calls.{receiveAnswer, receivedPlace}
-use Rattle.closing.specs.Closing.{closedState, isReceived, closeOf}
+use Rattle.closing.specs.Closing.{isReceived, closeOf}
 use Rattle.node.specs.Sound.{Sound}
 use Rattle.node.proofs.Closed.{state-closed}
 use Rattle.calls.specs.Contracts.{close, receive, value, sees, seenOf, next}
 use Rattle.order.specs.Own.{SameValues, SameInstance, SameOwn}
 use Rattle.order.specs.Replicas.{FieldByField, LieAlike, Replicas}
 use Rattle.order.proofs.Chosen.{pairwise-same, each-field}
-use Rattle.order.proofs.Replicas.{none-alike, instances-alike, replicas-agree, replicas-values}
+use Rattle.order.proofs.Replicas.{replicas-agree, replicas-values}
 
 -- ---- one layout
 
@@ -46,7 +45,7 @@ abbrev answer : Bool → Bool → ℕ → ℕ
 answer known sent a = cond (not known) 16 (cond sent 17 a)
 
 -- a message that is not received answers 16 or 17 whatever its status and value
-refused : (known sent : Bool) (a b : ℕ) (u v p : ℤ) → (known && not sent) ≡ false
+pub refused : (known sent : Bool) (a b : ℕ) (u v p : ℤ) → (known && not sent) ≡ false
     → sees (answer known sent a) (value (cond (eqb (answer known sent a) 0) u p)) ≡ sees (answer known sent b) (value (cond (eqb (answer known sent b) 0) v p))
 refused true true a b u v p t = refl
 refused true false a b u v p t = absurd (true≢false t)

@@ -1,12 +1,13 @@
--- A closing depends on its own round's deliveries. No call but a closing changes what a receive shows, or a received message's values (ReceivedKept). So at the end of a round a received message has the values of its beginning, its frames have what was delivered
--- last, and two rounds that agree on these end in two nodes which agree on the message's own bits.
+-- A closing depends on its own round's deliveries. No call but a closing changes what a receive shows, or a received message's values (ReceivedKept). So
+-- at the end of a round a received message has the values of its beginning, its frames have what was delivered last, and two rounds that agree on these
+-- end in two nodes which agree on the message's own bits.
 -- Assumes nothing.
 use mathlib.Core.Path.{_≡_, refl, sym, subst, _∙_}
-use mathlib.Core.Bool.{Bool, true, false, not, cond}
+use mathlib.Core.Bool.{Bool, true, false, and-false}
 use mathlib.Core.List.{List}
 use mathlib.Core.Logic.{_↔_}
 use Prim.Native.Nat.{ℕ, _<_}
-use lib.Dec.{eqb, ltb}
+use lib.Dec.{ltb}
 use lib.IntN.{ℤ}
 use Rattle.packing.specs.Places.{Agree}
 use Rattle.used.proofs.Runs.{same-tests}
@@ -17,32 +18,26 @@ use Rattle.own.specs.SoundLayout.{messagePlaces, itsStatusPlaces}
 use Rattle.node.specs.Calls.{receiveAnswer, receivedPlace}
 use Rattle.closing.specs.Closing.{came, isReceived}
 use Rattle.node.specs.Sound.{Sound}
-use Rattle.calls.specs.Contracts.{Call, close, receive, value, sees, seenOf, next, final}
+use Rattle.calls.specs.Contracts.{Call, close, receive, seenOf, next, final}
 use Rattle.order.specs.Flag.{answered}
 use Rattle.order.specs.Own.{SameValues, SameOwn}
 use Rattle.order.specs.Deliveries.{DeliveredWith, LastDelivery, OneRound, SameArrival, SameOwnRound}
 use Rattle.order.proofs.Kept.{final-layout, final-sound}
 use Rattle.order.proofs.Replicas.{in-layout}
 use Rattle.order.proofs.ReceivedKept.{round-kept, received-not-sent}
-use Rattle.order.proofs.OwnBits.{own-bits, own-values}
+use Rattle.order.proofs.OwnBits.{refused, own-bits, own-values}
 use Rattle.order.proofs.DeliveryHistory.{delivery-history}
 
 -- ---- what only a closing changes
 
--- 16 or 17 is answered whatever the message holds
-whatever : (t : Bool) (h h′ p : ℤ) → sees (cond (not t) 16 17) (value (cond (eqb (cond (not t) 16 17) 0) h p))
-    ≡ sees (cond (not t) 16 17) (value (cond (eqb (cond (not t) 16 17) 0) h′ p))
-whatever true h h′ p = refl
-whatever false h h′ p = refl
-
--- what a receive of it shows is what it showed when the round began
+-- what a receive shows is what it showed when the round began
 pub last-closing : (n : Node) (l : List Call) → OneRound l → (m : ℕ) (p : ℤ) → seenOf (final n l) (receive m p) ≡ seenOf n (receive m p)
 unfolding receiveAnswer receivedPlace
 last-closing n l round m p = rw (final-layout n l) (go (isSent (messageAt (n .layout) m)) refl)
   where
     go : (t : Bool) → isSent (messageAt (n .layout) m) ≡ t
         → seenOf (record { layout = n .layout; state = final n l .state }) (receive m p) ≡ seenOf n (receive m p)
-    go true sent = rw sent (whatever (ltb m (messageCount (n .layout))) _ _ p)
+    go true sent = let known = ltb m (messageCount (n .layout)) in rw sent (refused known true 0 0 _ _ p (and-false known))
     go false received = rw (round-kept n m received l round) refl
 
 -- ---- two rounds

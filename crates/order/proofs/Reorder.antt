@@ -45,7 +45,7 @@ module _ (layout : Layout) (p q r : List Numbered) (t : Numbered) (R : Reordered
 -- ---- runs
 
 -- the same node in the end, and each result of one order is one of the other
-abbrev pub Agrees : Node → List Numbered → List Numbered → Type 0
+abbrev Agrees : Node → List Numbered → List Numbered → Type 0
 Agrees n l₁ l₂ = (end n l₁ ≡ end n l₂) × ((r : Result) → In r (results n l₁) → In r (results n l₂))
 
 module _ (layout : Layout) where

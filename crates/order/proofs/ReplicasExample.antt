@@ -14,7 +14,7 @@ use Rattle.agreement.specs.Agreement.{countOf, ahead, oneThat, vote, agreed}
 use Rattle.filter.specs.Filter.{compared, bound, rules, passes}
 use Rattle.record.specs.Numbers.{tally, anyBelow, leastBelow}
 use Rattle.record.specs.Records.{byteAt, wordAt, frameAt, messageAt, fieldAt}
-use Rattle.layout.specs.Paper.{filled}
+use Rattle.layout.specs.Paper.{recordOf}
 use Rattle.store.specs.Node.{Node}
 use Rattle.start.specs.Start.{
   table,
@@ -42,12 +42,13 @@ use Rattle.calls.specs.Contracts.{deliver, close, receive, value, sees, seenOf,
 use Rattle.order.specs.Replicas.{Replicas, CameAlike}
 use Rattle.order.specs.Mirror.{afterRound}
 use Rattle.order.proofs.Kept.{kept-sound}
-use Rattle.order.proofs.LoadedNodes.{aloneFile, amongFile, twiceFile, receiverAlone, receiverAmong, receiverTwice, alone-sound, among-sound}
+use Rattle.order.specs.LoadedNodes.{aloneFile, amongFile, twiceFile, receiverAlone, receiverAmong, receiverTwice, ReplicasShow}
+use Rattle.order.proofs.LoadedNodes.{alone-sound, among-sound}
 use Rattle.order.proofs.Replicas.{replicas-agree}
 
 replicas : Replicas (receiverAlone 0 188 .layout) (receiverAmong .layout) 0 1
 unfolding
-    receiverAlone receiverAmong aloneFile amongFile filled byteAt wordAt frameAt messageAt fieldAt tally anyBelow leastBelow
+    receiverAlone receiverAmong aloneFile amongFile recordOf byteAt wordAt frameAt messageAt fieldAt tally anyBelow leastBelow
     startLayout startFrames startIndex startMessages startFields table selected laidFrame frameByFrame startMessageOrNone startMessage startLaid
     chosen cellsOf owns isReceived
 replicas =
@@ -67,7 +68,7 @@ other = next receiverAmong (deliver 1 true (47 ∷ 245 ∷ []))
 
 came-alike : CameAlike one other 0 1
 unfolding
-    receiverAlone receiverAmong aloneFile amongFile filled byteAt wordAt frameAt messageAt fieldAt tally anyBelow leastBelow
+    receiverAlone receiverAmong aloneFile amongFile recordOf byteAt wordAt frameAt messageAt fieldAt tally anyBelow leastBelow
     startLayout startState startFrames startIndex startMessages startStates startFields
     table selected laidFrame frameByFrame startMessageOrNone startMessage stateOrNone startLaid
     chosen cellsOf owns deliverOf deliverAnswer kept came
@@ -84,7 +85,7 @@ alone-shows : (p : ℤ)
     × (seenOf (afterRound (receiverAlone 1 188) 0 (41 ∷ 21 ∷ [])) (receive 0 p) ≡ sees 22 (value p))
     × (seenOf (afterRound (receiverAlone 0 88) 0 (41 ∷ 21 ∷ [])) (receive 0 p) ≡ sees 21 (value p))
 unfolding
-    receiverAlone aloneFile filled byteAt wordAt frameAt messageAt fieldAt tally anyBelow leastBelow
+    receiverAlone aloneFile recordOf byteAt wordAt frameAt messageAt fieldAt tally anyBelow leastBelow
     startLayout startState startFrames startIndex startMessages startStates startFields
     table selected laidFrame frameByFrame startMessageOrNone startMessage stateOrNone startLaid
     chosen cellsOf owns deliverOf deliverAnswer kept came
@@ -98,7 +99,7 @@ lowest-picked : (p : ℤ)
     → (seenOf (final (receiverTwice 1 2) (deliver 0 true (5 ∷ []) ∷ deliver 1 true (7 ∷ 0 ∷ []) ∷ close ∷ [])) (receive 0 p) ≡ sees 0 (value (pos 5)))
     × (seenOf (final (receiverTwice 2 1) (deliver 0 true (7 ∷ 0 ∷ []) ∷ deliver 1 true (5 ∷ []) ∷ close ∷ [])) (receive 0 p) ≡ sees 0 (value (pos 7)))
 unfolding
-    receiverTwice twiceFile filled byteAt wordAt frameAt messageAt fieldAt tally anyBelow leastBelow
+    receiverTwice twiceFile recordOf byteAt wordAt frameAt messageAt fieldAt tally anyBelow leastBelow
     startLayout startState startFrames startIndex startMessages startStates startFields
     table selected laidFrame frameByFrame startMessageOrNone startMessage stateOrNone startLaid
     chosen cellsOf owns deliverOf deliverAnswer kept came
@@ -108,10 +109,16 @@ unfolding
 lowest-picked p = (refl, refl)
 
 -- the one shows 677, and so does the other, since they are replicas
-pub both-show : (p : ℤ)
-    → (seenOf (next one close) (receive 0 p) ≡ sees 0 (value (pos 677))) × (seenOf (next other close) (receive 1 p) ≡ sees 0 (value (pos 677)))
+pub replicas-example : (p : ℤ) → ReplicasShow p
 unfolding deliverOf
-both-show p =
+replicas-example p =
     let same = replicas-agree (kept-sound alone-sound (deliver 0 true (41 ∷ 21 ∷ []))) (kept-sound among-sound (deliver 1 true (47 ∷ 245 ∷ []))) 0 1
     replicas came-alike p in
-    (alone-shows p .0, sym same ∙ alone-shows p .0)
+    record {
+      alone = alone-shows p .0;
+      among = sym same ∙ alone-shows p .0;
+      other-order = alone-shows p .1;
+      other-word = alone-shows p .2;
+      five-first = lowest-picked p .0;
+      seven-first = lowest-picked p .1;
+    }

@@ -17,6 +17,7 @@ use Rattle.filter.specs.Filter.{rules, passes}
 use Rattle.record.specs.Numbers.{tally, anyBelow, leastBelow}
 use Rattle.record.specs.Records.{byteAt, wordAt, frameAt, messageAt, fieldAt}
 use Rattle.record.specs.declared.Field.{Field as FieldRecord}
+use Rattle.layout.specs.Paper.{recordOf}
 use Rattle.store.specs.Node.{Node, laidAt}
 use Rattle.start.specs.Start.{
   table,
@@ -46,15 +47,14 @@ use Rattle.node.specs.Calls.{deliverAnswer, kept, deliverOf, receiveAnswer, rec
 use Rattle.closing.specs.Closing.{came, statusSet, counts, valueIn, instances, noneCame, closedState, isReceived, closeMessages, forget, closeOf}
 use Rattle.node.specs.Load.{loadOf}
 use Rattle.node.specs.Sound.{Sound}
-use Rattle.node.proofs.Starts.{sound-load}
-use Rattle.calls.specs.Contracts.{Call, deliver, close, receive, value, seenOf, next, final}
+use Rattle.calls.specs.Contracts.{Call, deliver, close, receive, value, sees, seenOf, next, final}
 use Rattle.order.specs.Order.{In}
 use Rattle.order.specs.Flag.{Answered, succeeded, answered}
 use Rattle.order.specs.Deliveries.{DeliveredWith, NoneDelivered, NoneSince, LastDelivery, last, among, OneRound, SameArrival, SameOwnRound}
 use Rattle.order.specs.Example.{receivedFile, deliveredTwice, deliveredOnce, SameShown}
 use Rattle.order.proofs.Among.{in-none, in-cases}
 use Rattle.order.proofs.Constructors.{clash}
-use Rattle.order.proofs.Example.{accepted}
+use Rattle.order.proofs.LoadedNodes.{accepted, loads, loaded-sound}
 use Rattle.order.proofs.DeliveryHistory.{none-loaded, delivery-history}
 use Rattle.order.proofs.OwnRound.{own-round}
 
@@ -62,11 +62,10 @@ abbrev loaded : Node
 loaded = startOf receivedFile 1 1 1
 
 load : (n : Node) → loadOf n receivedFile ≡ record { answer = 0; node = loaded }
-unfolding loadOf
-load n = rw (accepted .1) refl
+load = loads receivedFile 1 1 1 (accepted .8)
 
 sound : Sound loaded
-sound = rw (load loaded) at (sound-load loaded receivedFile (rw (load loaded) refl))
+sound = loaded-sound receivedFile 1 1 1 (accepted .8)
 
 none : NoneDelivered loaded
 none = rw (load loaded) at (none-loaded loaded receivedFile (rw (load loaded) refl))
@@ -79,14 +78,14 @@ answers =
 
 answered-twice : answered loaded deliveredTwice ≡ answers
 unfolding
-    receivedFile tally byteAt frameAt messageAt fieldAt
+    receivedFile recordOf tally byteAt frameAt messageAt fieldAt
     startLayout startState startFrames table laidFrame
     deliverOf deliverAnswer
 answered-twice = refl
 
 answered-once : answered loaded deliveredOnce ≡ succeeded (deliver 0 true (5 ∷ 3 ∷ [])) ∷ []
 unfolding
-    receivedFile tally byteAt frameAt messageAt fieldAt
+    receivedFile recordOf tally byteAt frameAt messageAt fieldAt
     startLayout startState startFrames table laidFrame
     deliverOf deliverAnswer
 answered-once = refl
@@ -145,13 +144,13 @@ field = laidAt (loaded .layout) 0
 own-places : Agree (5 ∷ 9 ∷ []) (5 ∷ 3 ∷ []) (messagePlaces (loaded .layout) field)
     × Agree (5 ∷ 9 ∷ []) (5 ∷ 3 ∷ []) (itsStatusPlaces (loaded .layout) field)
 unfolding
-    receivedFile tally leastBelow anyBelow byteAt wordAt frameAt messageAt fieldAt
+    receivedFile recordOf tally leastBelow anyBelow byteAt wordAt frameAt messageAt fieldAt
     startLayout startFrames startMessages startFields table laidFrame startMessageOrNone startMessage startLaid
     statusPlaces placesIn inFrame places bitPlaces frameBit placeOf bitOf bitAt
 own-places = ((refl, (refl, (refl, (refl, (refl, (refl, (refl, (refl, tt)))))))), tt)
 
 arrival : SameArrival (loaded .layout) field (answered loaded deliveredTwice) (answered loaded deliveredOnce)
-unfolding receivedFile byteAt fieldAt startLayout startFields table startLaid
+unfolding receivedFile recordOf byteAt fieldAt startLayout startFields table startLaid
 arrival =
     record {
       frame = (λ k. (5 ∷ 3 ∷ [], last-of-one), λ k. (5 ∷ 9 ∷ [], last-of-two));
@@ -175,12 +174,12 @@ same =
     }
 
 is-received : isReceived (loaded .layout) 0 ≡ true
-unfolding receivedFile tally leastBelow anyBelow byteAt wordAt messageAt fieldAt startLayout startMessages table startMessageOrNone startMessage isReceived
+unfolding receivedFile recordOf tally leastBelow anyBelow byteAt wordAt messageAt fieldAt startLayout startMessages table startMessageOrNone startMessage isReceived
 is-received = refl
 
-once-shown : (p : ℤ) → seenOf (next (final loaded deliveredOnce) close) (receive 0 p) ≡ record { answer = 0; lent = value (pos 5) }
+once-shown : (p : ℤ) → seenOf (next (final loaded deliveredOnce) close) (receive 0 p) ≡ sees 0 (value (pos 5))
 unfolding
-    receivedFile tally leastBelow anyBelow byteAt wordAt frameAt messageAt fieldAt
+    receivedFile recordOf tally leastBelow anyBelow byteAt wordAt frameAt messageAt fieldAt
     startLayout startState startFrames startIndex startMessages startStates startFields
     table selected laidFrame frameByFrame startMessageOrNone startMessage stateOrNone startLaid
     chosen changed cellsOf owns allOf deliverOf deliverAnswer kept

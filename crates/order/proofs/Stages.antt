@@ -137,7 +137,7 @@ module _ {n : Node} {d m f : ℕ} (s : Sound n) (x : FieldOf (n .layout) d m f) 
 -- ---- all calls of a list
 
 -- what the calls must hold for a field of frame f at the stage to be gone after them
-abbrev pub Goes : Stage → Node → ℕ → List Call → Type 0
+abbrev Goes : Stage → Node → ℕ → List Call → Type 0
 Goes Waiting n f l = GoesOut n f l
 Goes Loaded n f l = In (succeeded (consumed f)) (answered n l)
 Goes (Gone k) n f l = Unit {0}

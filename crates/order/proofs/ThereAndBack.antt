@@ -144,13 +144,13 @@ module _ {s : Node} (sender : Sound s) (m : ℕ) where
   cell : m < s .layout .message-number → m < length (s .state .messages)
   cell l = omega (arith, sender .layout .few-messages, sender .state .message-cells)
 
-  sent-state : (v : ℤ) → answerOf s (send m v) ≡ 0 → stateAt (next s (send m v) .state) m ≡ offered g (stateAt (s .state) m) v
+  pub sent-state : (v : ℤ) → answerOf s (send m v) ≡ 0 → stateAt (next s (send m v) .state) m ≡ offered g (stateAt (s .state) m) v
   unfolding sendOf
   sent-state v ok =
       let room = cell (send-tests (s .layout) m v ok .0) in
       rw ok (getD-set-same (s .state .messages) m (offered g (stateAt (s .state) m) v) noState room)
 
-  passed-message : (v : ℤ) → answerOf s (send m v) ≡ 0 → passesNow g (stateAt (s .state) m) v ≡ true
+  pub passed-message : (v : ℤ) → answerOf s (send m v) ≡ 0 → passesNow g (stateAt (s .state) m) v ≡ true
       → (goesValid g (stateAt (next s (send m v) .state) m) ≡ true) × (heldValue g (stateAt (next s (send m v) .state) m) ≡ v)
   unfolding sendOf offered put
   passed-message v ok passes = rw (sent-state v ok, passes) (or-true (not (hasStatusBit g)), pattern-held g v (send-tests (s .layout) m v ok .1))

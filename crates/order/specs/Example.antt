@@ -6,15 +6,11 @@ use mathlib.Core.Bool.{true, false}
 use mathlib.Core.List.{List, [], _∷_, _++_}
 use Prim.Native.Nat.{ℕ}
 use lib.IntN.{ℤ, pos}
-use lib.ListN.{replicate}
+use Rattle.layout.specs.Paper.{recordOf}
 use Rattle.store.specs.Node.{Node, nodeOf}
-use Rattle.calls.specs.Contracts.{Call, send, assemble, deliver, close, receive, nothing, buffer, value, seenOf, next, final}
+use Rattle.calls.specs.Contracts.{Call, send, assemble, deliver, close, receive, nothing, buffer, value, sees, seenOf, next, final}
 use Rattle.order.specs.Order.{carries, Numbered, Result, Ran}
 use Rattle.order.specs.Deliveries.{DeliveredWith}
-
--- a record of which six bytes are named
-abbrev pub recordOf : List ℕ → List ℕ
-recordOf six = six ++ replicate 18 0
 
 -- ---- the order of calls
 
@@ -33,14 +29,14 @@ abbrev pub sends1 : Numbered
 sends1 = record { number = 1; call = send 1 (pos 7) }
 
 abbrev pub assembles0 : Numbered
-assembles0 = record { number = 2; call = assemble 0 (0 ∷ []) }
+assembles0 = record { number = 2; call = assemble 0 (255 ∷ []) }
 
 -- the send of that number was answered 0; and so was the assembly, with x in its buffer of one byte
 abbrev pub wasSent : ℕ → Result
-wasSent k = record { number = k; seen = record { answer = 0; lent = nothing } }
+wasSent k = record { number = k; seen = sees 0 nothing }
 
 abbrev pub wasAssembled : ℕ → Result
-wasAssembled x = record { number = 2; seen = record { answer = 0; lent = buffer (x ∷ []) } }
+wasAssembled x = record { number = 2; seen = sees 0 (buffer (x ∷ [])) }
 
 -- frame 0 does not carry message 1: in either order each caller sees the same, and the memory afterwards is the same
 pub record MayChange (b : List ℕ) : Type 0 where
@@ -73,5 +69,5 @@ deliveredOnce = deliver 0 true (5 ∷ 3 ∷ []) ∷ []
 pub record SameShown (n : Node) : Type 0 where
   pub twice : DeliveredWith (final n deliveredTwice) 0 (5 ∷ 9 ∷ [])
   pub once : DeliveredWith (final n deliveredOnce) 0 (5 ∷ 3 ∷ [])
-  pub twice-shown : (p : ℤ) → seenOf (next (final n deliveredTwice) close) (receive 0 p) ≡ record { answer = 0; lent = value (pos 5) }
-  pub once-shown : (p : ℤ) → seenOf (next (final n deliveredOnce) close) (receive 0 p) ≡ record { answer = 0; lent = value (pos 5) }
+  pub twice-shown : (p : ℤ) → seenOf (next (final n deliveredTwice) close) (receive 0 p) ≡ sees 0 (value (pos 5))
+  pub once-shown : (p : ℤ) → seenOf (next (final n deliveredOnce) close) (receive 0 p) ≡ sees 0 (value (pos 5))

@@ -6,7 +6,7 @@ use mathlib.Core.List.{List, [], _∷_}
 use Prim.Native.Nat.{ℕ}
 use lib.IntN.{ℤ}
 use Rattle.store.specs.Node.{Node}
-use Rattle.calls.specs.Contracts.{Call, send, assemble, consumed, Seen, flag, answerOf, next}
+use Rattle.calls.specs.Contracts.{Call, send, assemble, consumed, Seen, flag, answerOf, sees, next}
 use Rattle.order.specs.Order.{In, Before, carries}
 
 -- a call, and what it was answered
@@ -40,4 +40,4 @@ AllOut n m l = (f : ℕ) → carries (n .layout) f m ≡ true → GoesOut n f l
 
 -- the caller of read flag sees answer 0, and k in its place: 1 is set, 0 is cleared
 abbrev pub shows : ℕ → Seen
-shows k = record { answer = 0; lent = flag k }
+shows k = sees 0 (flag k)

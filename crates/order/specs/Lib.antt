@@ -9,4 +9,5 @@ pub mod Floats
 pub mod Deliveries
 pub mod Counting
 pub mod Example
+pub mod LoadedNodes
 pub mod Claims

@@ -1,6 +1,6 @@
 -- The laws of `changed`, `chosen`, `isIn` and `table`, by induction on the list. Of `changed`: each element is as the test of its number says. Of
 -- `chosen`: what holds of each element that passes the test holds of all that are chosen, and a number is chosen exactly if it was there and passes.
--- What holds of each number that is in a list holds of all its elements.
+-- What holds of each number that is in a list holds of all its elements, and a test of all is one of each.
 -- Assumes nothing.
 use mathlib.Core.Path.{_≡_, refl, ap, sym, _∙_}
 use mathlib.Core.Bool.{Bool, true, false, cond, _&&_, _||_, and-false, and-eq-true-iff, true≢false}
@@ -13,6 +13,7 @@ use native.Mathlib.Omega.{arith}
 use lib.Dec.{eqb}
 use lib.ListN.{length, getD}
 use borrow.Author.Tests.{eqb-true, eq-eqb}
+use Rattle.whole.specs.Whole.{allOf}
 use Rattle.start.specs.Start.{table}
 use Rattle.own.specs.Own.{chosen, changed, isIn, Rising}
 
@@ -69,6 +70,14 @@ pub every-map : {A B : Type 0} (f : A → B) (P : B → Type 0) (l : List A) →
 every-map f P [] h = tt
 every-map f P (x ∷ l) h = (h .0, every-map f P l (h .1))
 
+-- a test of all is one of each
+pub all-every : {A : Type 0} (p : A → Bool) (l : List A) → (allOf p l ≡ true) ↔ Every (λ x. p x ≡ true) l
+unfolding allOf
+all-every p [] = (λ t. tt, λ h. refl)
+all-every p (x ∷ l) =
+    let later = all-every p l in
+    (λ t. let both = and-eq-true-iff (p x) (allOf p l) .0 t in (both .0, later .0 (both .1)), λ h. rw (h .0) (later .1 (h .1)))
+
 -- no more are chosen than there are
 pub chosen-few : {A : Type 0} (p : A → Bool) (l : List A) → length (chosen p l) ≤ length l
 unfolding chosen
@@ -101,6 +110,12 @@ pub every-number : (P : ℕ → Type 0) (l : List ℕ) → ((d : ℕ) → isIn d
 unfolding isIn
 every-number P [] h = tt
 every-number P (e ∷ l) h = (h e (rw (eq-eqb e e refl) refl), every-number P l (λ d t. h d (or-right (eqb d e) t)))
+
+pub all-in : (p : ℕ → Bool) (l : List ℕ) → (allOf p l ≡ true) ↔ ((d : ℕ) → isIn d l ≡ true → p d ≡ true)
+all-in p l = (
+  λ t d i. every-in (λ d. p d ≡ true) l d (all-every p l .0 t) i,
+  λ h. all-every p l .1 (every-number (λ d. p d ≡ true) l h),
+)
 
 chosen-test : (p : ℕ → Bool) (d : ℕ) (l : List ℕ) → isIn d (chosen p l) ≡ (isIn d l && p d)
 unfolding isIn chosen

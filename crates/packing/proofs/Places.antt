@@ -1,11 +1,10 @@
 -- Where the bits of a message lie: the place of each message bit, in both orders; the places of a run are as many as its bits, lie inside the
--- frame and differ. All of it follows from two facts: each frame bit has a place of its
--- own, and each message bit a frame bit of its own.
+-- frame and differ. All of it follows from two facts: each frame bit has a place of its own, and each message bit a frame bit of its own.
 -- Assumes nothing.
-use mathlib.Core.Path.{_≡_, refl, sym, ap, _∙_}
+use mathlib.Core.Path.{_≡_, refl, ap, _∙_}
 use mathlib.Core.Bool.{Bool, true, false, cond, and-eq-true-iff}
-use mathlib.Core.List.{List, [], _∷_}
-use mathlib.Core.Logic.{_⊎_, inl, inr, ⊎-elim}
+use mathlib.Core.List.{List, []}
+use mathlib.Core.Logic.{_⊎_, ⊎-elim}
 use Prim.Native.Nat.{ℕ, zero, suc, _+_, _-_, _*_, _/_, _%_, _<_, _≤_}
 use native.Mathlib.Omega.{arith}
 use lib.Dec.{leb}
@@ -20,7 +19,7 @@ unfolding placeOf
 place-below false n i h = omega arith
 place-below true n i h = omega arith
 
-place-own : (big : Bool) (i j : ℕ) → placeOf big i ≡ placeOf big j → i ≡ j
+pub place-own : (big : Bool) (i j : ℕ) → placeOf big i ≡ placeOf big j → i ≡ j
 unfolding placeOf
 place-own false i j e = omega arith
 place-own true i j e = omega arith

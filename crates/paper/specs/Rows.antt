@@ -42,25 +42,26 @@ abbrev pub received : ℕ → ℕ → Message
 received sign agreement =
     record { width = 32; sign = sign; direction = 0; agreement = agreement; filter = 0; statusbit = 0; first = 0; fields = 8; x1 = 0; x2 = 0 }
 
--- averages of signed and of unsigned messages, and a vote
+-- messages that average, a signed one and an unsigned one, and one that votes
 abbrev pub signedAveraging : Message
 signedAveraging = received 1 1
 
-abbrev pub average : Message
-average = received 0 1
+abbrev pub averaging : Message
+averaging = received 0 1
 
-abbrev pub vote : Message
-vote = received 0 2
+abbrev pub voting : Message
+voting = received 0 2
 
 -- what a receive gives: a value, or the answer of a status other than 0
 pub data Receives : Type 0 where
   value : ℤ → Receives
   answer : ℕ → Receives
 
--- after a round in which those instances of a message count, which held 0 before
+-- of a message in that state
 unfoldable pub shown : Message → MessageState → Receives
 shown g s = cond (eqb (s .status) 0) (value (heldValue g s)) (answer (s .status))
 
+-- after a round in which those instances of it count, where it held 0 before
 abbrev pub closed : Message → List ℤ → Receives
 closed g l = shown g (settled g (initially (pos 0)) false l)
 
@@ -89,7 +90,7 @@ pub record Rows : Type 0 where
   pub P5 : closed signedAveraging (minus 3 ∷ minus 4 ∷ []) ≡ value (minus 3)
   -- average of eight times 4,294,967,295: 4,294,967,295
   pub P6 :
-      closed average
+      closed averaging
       (pos 4294967295
       ∷ pos 4294967295
       ∷ pos 4294967295
@@ -101,10 +102,10 @@ pub record Rows : Type 0 where
       ∷ [])
       ≡ value (pos 4294967295)
   -- vote 5, 5, 9, 7: 5
-  pub P7 : closed vote (pos 5 ∷ pos 5 ∷ pos 9 ∷ pos 7 ∷ []) ≡ value (pos 5)
+  pub P7 : closed voting (pos 5 ∷ pos 5 ∷ pos 9 ∷ pos 7 ∷ []) ≡ value (pos 5)
   -- vote 5, 5, 9, 9: 20
-  pub P8 : closed vote (pos 5 ∷ pos 5 ∷ pos 9 ∷ pos 9 ∷ []) ≡ answer 20
+  pub P8 : closed voting (pos 5 ∷ pos 5 ∷ pos 9 ∷ pos 9 ∷ []) ≡ answer 20
   -- vote 5 alone: 5
-  pub P9 : closed vote (pos 5 ∷ []) ≡ value (pos 5)
+  pub P9 : closed voting (pos 5 ∷ []) ≡ value (pos 5)
   -- filter 10, initial 0, then 10, 4, 7: passes, not, passes
   pub P10 : sent (message 10) (initially (pos 0)) (pos 10 ∷ pos 4 ∷ pos 7 ∷ []) ≡ true ∷ false ∷ true ∷ []

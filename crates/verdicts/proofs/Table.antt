@@ -10,7 +10,7 @@ use Rattle.record.specs.Runs.{pastEnd, meet, clash}
 use Rattle.ranges.specs.Ranges.{wrongIf, wordFits, wordFinding, frameFinding, messageFinding, fieldFinding, findingOf, findingAt, wrongAt}
 use Rattle.ranges.specs.Ranges.{lowestFault, rangeFault}
 use Rattle.layout.specs.Counts.{countsBefore}
-use Rattle.layout.specs.Paper.{filled}
+use Rattle.layout.specs.Paper.{recordOf}
 use Rattle.layout.specs.Verdict.{sizeFault, orderFault, refFault, isFieldOf, unlike, groupFault, clashAt, placeFault, fails, refusalOf}
 use Rattle.layout.specs.Verdict.{noField, complete, failsAt, refusalAt, judged, verdict}
 use Rattle.verdicts.specs.Rows.{frame, message, field, frames, fields, messages, row, from, small, each-byte, frame-answers, message-answers}
@@ -18,7 +18,7 @@ use Rattle.verdicts.specs.Rows.{field-answers, byte-rows, float, zero-wo
 
 pub table : map (λ r. verdict (r .file)) rows ≡ map (λ r. r .answer) rows
 unfolding
-    rows row frame message field frames fields messages filled
+    rows row frame message field frames fields messages recordOf
     from small each-byte frame-answers message-answers field-answers byte-rows
     float zero-word minus-zero infinity not-a-number float-rows
     extended isWidth extend aside

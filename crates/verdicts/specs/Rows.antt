@@ -6,20 +6,20 @@ use mathlib.Core.List.{List, [], _∷_, _++_, map}
 use Prim.Native.Nat.{ℕ, zero, suc, _+_, _/_, _%_}
 use lib.ListN.{replicate, set}
 use Rattle.ranges.specs.declared.Fault.{Fault}
-use Rattle.layout.specs.Paper.{filled, paper}
+use Rattle.layout.specs.Paper.{recordOf, paper}
 use Rattle.layout.specs.Verdict.{verdict}
 use Rattle.layout.specs.declared.Refusal.{Refusal}
 use Rattle.layout.specs.declared.Verdict.{Verdict}
 
 -- a received frame of so many bytes; message 0, received and of so many bits; a field of message 0, in a frame and from a start bit on
 unfoldable pub frame : ℕ → ℕ → List ℕ
-frame number bytes = filled (1 ∷ number ∷ bytes ∷ [])
+frame number bytes = recordOf (1 ∷ number ∷ bytes ∷ [])
 
 unfoldable pub message : ℕ → List ℕ
-message bits = filled (2 ∷ 0 ∷ bits ∷ [])
+message bits = recordOf (2 ∷ 0 ∷ bits ∷ [])
 
 unfoldable pub field : ℕ → ℕ → List ℕ
-field number start = filled (3 ∷ 0 ∷ number ∷ start ∷ [])
+field number start = recordOf (3 ∷ 0 ∷ number ∷ start ∷ [])
 
 -- n frames, and a field in each of them
 unfoldable pub frames : ℕ → List ℕ
@@ -33,7 +33,7 @@ fields (suc n) = fields n ++ field n 0
 -- n messages of one bit
 unfoldable pub messages : ℕ → List ℕ
 messages zero = []
-messages (suc n) = messages n ++ filled (2 ∷ n ∷ 1 ∷ [])
+messages (suc n) = messages n ++ recordOf (2 ∷ n ∷ 1 ∷ [])
 
 -- record r is refused for this byte
 abbrev pub wrong : ℕ → Fault → ℕ → Verdict
@@ -55,7 +55,7 @@ from a (suc n) = a ∷ from (a + 1) n
 
 -- a frame, a message of one bit with this filter, and a field of it
 unfoldable pub small : ℕ → List ℕ
-small filter = frame 0 2 ++ filled (2 ∷ 0 ∷ 1 ∷ 0 ∷ 0 ∷ 0 ∷ filter ∷ []) ++ field 0 3
+small filter = frame 0 2 ++ recordOf (2 ∷ 0 ∷ 1 ∷ 0 ∷ 0 ∷ 0 ∷ filter ∷ []) ++ field 0 3
 
 -- the file with byte k changed to 255, then the one with the byte after it, and on, with these answers
 unfoldable pub each-byte : List ℕ → ℕ → List Verdict → List Row
@@ -98,7 +98,7 @@ byte-rows =
 
 -- message 0, a received float with this filter, and the bytes of its words
 unfoldable pub float : ℕ → List ℕ → List ℕ
-float filter words = filled ((2 ∷ 0 ∷ 32 ∷ 2 ∷ 0 ∷ 0 ∷ filter ∷ 0 ∷ []) ++ words)
+float filter words = recordOf ((2 ∷ 0 ∷ 32 ∷ 2 ∷ 0 ∷ 0 ∷ filter ∷ 0 ∷ []) ++ words)
 
 -- the words 00000000 and 80000000, and 7F800000 and FFC00000, which are not finite
 unfoldable pub zero-word : List ℕ
@@ -118,9 +118,9 @@ float-rows =
     -- filter 8 from -0 to the greatest float, and the least above 0 as the initial value
     row (frame 0 4 ++ float 8 (minus-zero ++ 255 ∷ 255 ∷ 127 ∷ 127 ∷ 1 ∷ []) ++ field 0 0) (Verdict.Accepted 1 1 1)
     -- RANGE: sign 3; a float of 31 bits, and of 33, where the width's byte is the lower
-    ∷ row (filled (2 ∷ 0 ∷ 32 ∷ 3 ∷ [])) (wrong 0 Fault.Range 3)
-    ∷ row (filled (2 ∷ 0 ∷ 31 ∷ 2 ∷ [])) (wrong 0 Fault.Range 3)
-    ∷ row (filled (2 ∷ 0 ∷ 33 ∷ 2 ∷ [])) (wrong 0 Fault.Range 2)
+    ∷ row (recordOf (2 ∷ 0 ∷ 32 ∷ 3 ∷ [])) (wrong 0 Fault.Range 3)
+    ∷ row (recordOf (2 ∷ 0 ∷ 31 ∷ 2 ∷ [])) (wrong 0 Fault.Range 3)
+    ∷ row (recordOf (2 ∷ 0 ∷ 33 ∷ 2 ∷ [])) (wrong 0 Fault.Range 2)
     -- RANGE: each mask
     ∷ row (float 2 []) (wrong 0 Fault.Range 6)
     ∷ row (float 3 []) (wrong 0 Fault.Range 6)
@@ -134,7 +134,7 @@ float-rows =
     ∷ row (float 0 minus-zero) (wrong 0 Fault.Unused 8)
     ∷ row (float 0 infinity) (wrong 0 Fault.Unused 8)
     -- in an unsigned message that word is right, and only a field is lacking
-    ∷ row (filled (2 ∷ 0 ∷ 32 ∷ 0 ∷ 0 ∷ 0 ∷ 8 ∷ 0 ∷ infinity)) (Verdict.Refused Refusal.NoField 0)
+    ∷ row (recordOf (2 ∷ 0 ∷ 32 ∷ 0 ∷ 0 ∷ 0 ∷ 8 ∷ 0 ∷ infinity)) (Verdict.Refused Refusal.NoField 0)
     ∷ []
 
 -- ---- the table
@@ -153,28 +153,28 @@ rows =
     ∷ row (frame 0 2 ++ frame 1 0) (wrong 1 Fault.Range 2)
     ∷ row (frames 33) (wrong 32 Fault.Range 1)
     ∷ row (messages 33) (wrong 32 Fault.Range 1)
-    ∷ row (filled (2 ∷ 0 ∷ 10 ∷ 0 ∷ 1 ∷ 2 ∷ [])) (wrong 0 Fault.Range 5)
+    ∷ row (recordOf (2 ∷ 0 ∷ 10 ∷ 0 ∷ 1 ∷ 2 ∷ [])) (wrong 0 Fault.Range 5)
     -- UNUSED: an x2 with filter 7, which uses x1 alone
-    ∷ row (filled (2 ∷ 0 ∷ 10 ∷ 0 ∷ 0 ∷ 0 ∷ 7 ∷ 0 ∷ 1 ∷ 0 ∷ 0 ∷ 0 ∷ 1 ∷ [])) (wrong 0 Fault.Unused 12)
+    ∷ row (recordOf (2 ∷ 0 ∷ 10 ∷ 0 ∷ 0 ∷ 0 ∷ 7 ∷ 0 ∷ 1 ∷ 0 ∷ 0 ∷ 0 ∷ 1 ∷ [])) (wrong 0 Fault.Unused 12)
     -- WIDTH: 1,024 as the initial value of 10 bits; 511 and 512 as x2 of 10 signed bits
-    ∷ row (filled (2 ∷ 0 ∷ 10 ∷ 0 ∷ 0 ∷ 0 ∷ 0 ∷ 0 ∷ 0 ∷ 0 ∷ 0 ∷ 0 ∷ 0 ∷ 0 ∷ 0 ∷ 0 ∷ 0 ∷ 4 ∷ [])) (wrong 0 Fault.Width 16)
-    ∷ row (filled (2 ∷ 0 ∷ 10 ∷ 1 ∷ 0 ∷ 0 ∷ 8 ∷ 0 ∷ 0 ∷ 0 ∷ 0 ∷ 0 ∷ 255 ∷ 1 ∷ [])) (Verdict.Refused Refusal.NoField 0)
-    ∷ row (filled (2 ∷ 0 ∷ 10 ∷ 1 ∷ 0 ∷ 0 ∷ 8 ∷ 0 ∷ 0 ∷ 0 ∷ 0 ∷ 0 ∷ 0 ∷ 2 ∷ [])) (wrong 0 Fault.Width 12)
+    ∷ row (recordOf (2 ∷ 0 ∷ 10 ∷ 0 ∷ 0 ∷ 0 ∷ 0 ∷ 0 ∷ 0 ∷ 0 ∷ 0 ∷ 0 ∷ 0 ∷ 0 ∷ 0 ∷ 0 ∷ 0 ∷ 4 ∷ [])) (wrong 0 Fault.Width 16)
+    ∷ row (recordOf (2 ∷ 0 ∷ 10 ∷ 1 ∷ 0 ∷ 0 ∷ 8 ∷ 0 ∷ 0 ∷ 0 ∷ 0 ∷ 0 ∷ 255 ∷ 1 ∷ [])) (Verdict.Refused Refusal.NoField 0)
+    ∷ row (recordOf (2 ∷ 0 ∷ 10 ∷ 1 ∷ 0 ∷ 0 ∷ 8 ∷ 0 ∷ 0 ∷ 0 ∷ 0 ∷ 0 ∷ 0 ∷ 2 ∷ [])) (wrong 0 Fault.Width 12)
     -- the lowest decides: RANGE at 3 before RESERVED at 7; RESERVED at 7 before UNUSED at 8; WIDTH at 8 before UNUSED at 12
-    ∷ row (filled (2 ∷ 0 ∷ 10 ∷ 2 ∷ 0 ∷ 0 ∷ 0 ∷ 1 ∷ [])) (wrong 0 Fault.Range 3)
-    ∷ row (filled (2 ∷ 0 ∷ 10 ∷ 0 ∷ 0 ∷ 0 ∷ 0 ∷ 1 ∷ 1 ∷ [])) (wrong 0 Fault.Reserved 7)
-    ∷ row (filled (2 ∷ 0 ∷ 10 ∷ 0 ∷ 0 ∷ 0 ∷ 6 ∷ 0 ∷ 0 ∷ 4 ∷ 0 ∷ 0 ∷ 1 ∷ [])) (wrong 0 Fault.Width 8)
+    ∷ row (recordOf (2 ∷ 0 ∷ 10 ∷ 2 ∷ 0 ∷ 0 ∷ 0 ∷ 1 ∷ [])) (wrong 0 Fault.Range 3)
+    ∷ row (recordOf (2 ∷ 0 ∷ 10 ∷ 0 ∷ 0 ∷ 0 ∷ 0 ∷ 1 ∷ 1 ∷ [])) (wrong 0 Fault.Reserved 7)
+    ∷ row (recordOf (2 ∷ 0 ∷ 10 ∷ 0 ∷ 0 ∷ 0 ∷ 6 ∷ 0 ∷ 0 ∷ 4 ∷ 0 ∷ 0 ∷ 1 ∷ [])) (wrong 0 Fault.Width 8)
     -- REF: a field of no message; a sent message in a received frame
     ∷ row (frame 0 2 ++ field 0 3) (Verdict.Refused Refusal.Ref 1)
-    ∷ row (frame 0 2 ++ filled (2 ∷ 0 ∷ 10 ∷ 0 ∷ 1 ∷ []) ++ field 0 3) (Verdict.Refused Refusal.Ref 2)
+    ∷ row (frame 0 2 ++ recordOf (2 ∷ 0 ∷ 10 ∷ 0 ∷ 1 ∷ []) ++ field 0 3) (Verdict.Refused Refusal.Ref 2)
     -- GROUP: eight fields of a message, and nine; a sent message with filter 1 and no status bit
     ∷ row (frames 9 ++ message 10 ++ fields 8) (Verdict.Accepted 9 1 8)
     ∷ row (frames 9 ++ message 10 ++ fields 9) (Verdict.Refused Refusal.Group 18)
-    ∷ row (filled (1 ∷ 0 ∷ 2 ∷ 0 ∷ 1 ∷ []) ++ filled (2 ∷ 0 ∷ 10 ∷ 0 ∷ 1 ∷ 0 ∷ 1 ∷ []) ++ field 0 3) (Verdict.Refused Refusal.Group 2)
+    ∷ row (recordOf (1 ∷ 0 ∷ 2 ∷ 0 ∷ 1 ∷ []) ++ recordOf (2 ∷ 0 ∷ 10 ∷ 0 ∷ 1 ∷ 0 ∷ 1 ∷ []) ++ field 0 3) (Verdict.Refused Refusal.Group 2)
     -- PLACE: 32 bits at the end of a frame, and one past it; a status bit among the field's own
     ∷ row (frame 0 32 ++ message 32 ++ field 0 224) (Verdict.Accepted 1 1 1)
     ∷ row (frame 0 32 ++ message 32 ++ field 0 225) (Verdict.Refused Refusal.Place 2)
-    ∷ row (frame 0 2 ++ message 10 ++ filled (3 ∷ 0 ∷ 0 ∷ 3 ∷ 1 ∷ 12 ∷ [])) (Verdict.Refused Refusal.Place 2)
+    ∷ row (frame 0 2 ++ message 10 ++ recordOf (3 ∷ 0 ∷ 0 ∷ 3 ∷ 1 ∷ 12 ∷ [])) (Verdict.Refused Refusal.Place 2)
     -- NOFIELD
     ∷ row (frame 0 2 ++ message 10) (Verdict.Refused Refusal.NoField 1)
     ∷ float-rows ++ byte-rows

@@ -2,26 +2,23 @@
 -- Assumes nothing.
 use mathlib.Core.Path.{_≡_, refl, ap, sym, _∙_}
 use mathlib.Core.List.{List}
-use Prim.Native.Nat.{ℕ, zero, suc, _≤_, _<_}
+use Prim.Native.Nat.{ℕ, zero, suc, _<_}
 use native.Mathlib.Omega.{arith}
 use lib.IntN.{ℤ}
 use lib.ListN.{length}
 use lib.Seq.{length-take-le}
 use borrow.Author.Needs.{needs}
-use borrow.Author.Tests.{le-leb, lt-leb}
+use borrow.Author.Tests.{lt-leb}
 use Rattle.agreement.specs.declared.Agreed.the-variants.{NoResult}
 use Rattle.agreement.specs.Agreement.{agreed}
 use Rattle.agreement.specs.Floats.{leftOf, floatMean, leftAgreed, floatsAgreed}
+use Rattle.agreement.proofs.FloatLaws.{of-eight}
 use Rattle.agreement.proofs.agree_floats.Statement.{statement}
 use Rattle.agreement.proofs.agree_floats.Tie as tie
 
 too-many : (k : ℕ) (l : List ℤ) → 8 < length l → NoResult ≡ floatsAgreed k l
 unfolding floatsAgreed
 too-many k l h = rw (lt-leb (length l) 8 h) refl
-
-of-eight : (k : ℕ) (l : List ℤ) → length l ≤ 8 → floatsAgreed k l ≡ leftAgreed k (leftOf l)
-unfolding floatsAgreed
-of-eight k l h = rw (le-leb (length l) 8 h) refl
 
 means : (k : ℕ) (l : List ℤ) → k ≡ 1 → leftAgreed k l ≡ floatMean l
 unfolding leftAgreed

@@ -1,4 +1,4 @@
--- `agreement::mean` meets its contract. The code's two tests are those of a group, so a sum is taken of a group alone; the sum and the quotient
+-- `agreement::mean` meets its contract. The code's two tests are those of `messageValues`, so a sum is taken of such instances alone; the sum and the quotient
 -- have room, so that each is read back from its bits as it is. Assumes nothing.
 use mathlib.Core.Path.{_≡_, ap, ap₂, sym, _∙_}
 use mathlib.Core.Bool.{true, not, _&&_}

@@ -6,6 +6,7 @@
 #include <math.h>
 #include <stdio.h>
 
+#include "load.h"
 #include "mondgurt.h"
 
 /* Frames and messages by their numbers in the layout. */
@@ -13,19 +14,6 @@ enum { GAUGE_A, GAUGE_B, GAUGE_C, COMMAND };
 enum { STRAIN, SET_POINT };
 
 static mondgurt_node node;
-
-static int load(const char *name)
-{
-    static uint8_t file[MONDGURT_FILE + 1]; /* so that a longer file is refused */
-    FILE *from = fopen(name, "rb");
-    if (from == NULL) {
-        perror(name);
-        return 0;
-    }
-    size_t length = fread(file, 1, sizeof file, from);
-    fclose(from);
-    return mondgurt_load(&node, file, length) == 0;
-}
 
 /* A gauge's frame: the float in bits 0 to 31 of little order, and the status bit at 32. */
 static uint8_t deliver(uint64_t frame, float strain)
@@ -53,7 +41,7 @@ static void play(const char *title, float a, float b, float c)
     else if (answer == MONDGURT_NOT_RECEIVED)
         puts("not received");
     else
-        printf("answer %d\n", answer);
+        printf("answer %s\n", mondgurt_answer_name(answer));
 }
 
 static void send_set_point(const char *title, float set_point)
@@ -61,20 +49,20 @@ static void send_set_point(const char *title, float set_point)
     uint8_t data[4] = {0};
     uint8_t answer = mondgurt_send(&node, SET_POINT, mondgurt_value_of_float(set_point));
     int done = mondgurt_assemble(&node, COMMAND, data, sizeof data) == MONDGURT_OK;
-    printf("%s: answer %d, %s %02X %02X %02X %02X\n", title, answer, done ? "the frame is" : "no frame", data[0], data[1], data[2], data[3]);
+    printf("%s: answer %s, ", title, mondgurt_answer_name(answer));
+    printf("%s %02X %02X %02X %02X\n", done ? "the frame is" : "no frame", data[0], data[1], data[2], data[3]);
 }
 
 int main(int count, char **words)
 {
-    if (count != 2 || !load(words[1])) {
-        fprintf(stderr, "usage: %s LAYOUT\n", words[0]);
+    if (!load(&node, count, words))
         return 2;
-    }
     play("The gauges say 120.5, 121 and 119.5", 120.5f, 121.0f, 119.5f);
     play("They say 120.5, NaN and 121.5", 120.5f, NAN, 121.5f);
     play("They say infinity, NaN and NaN", INFINITY, NAN, NAN);
     play("They say 5000, 5001 and 4999, above the filter's 1000", 5000.0f, 5001.0f, 4999.0f);
     play("They say 0.1, 0.1 and 0.1", 0.1f, 0.1f, 0.1f);
+    play("They say -120.5, -121 and -119.5", -120.5f, -121.0f, -119.5f);
     send_set_point("Set point 250.75 is sent", 250.75f);
     send_set_point("Set point infinity is sent", INFINITY);
     return 0;

@@ -7,6 +7,7 @@
 #include <stdio.h>
 #include <string.h>
 
+#include "load.h"
 #include "mondgurt.h"
 
 /* Frames and messages by their numbers in the layout. */
@@ -20,28 +21,6 @@ static const uint8_t on_b[4] = {0xD5, 0x40, 0xFF, 0x00};
 static mondgurt_node a_first;
 static mondgurt_node b_first;
 
-static int load(const char *name)
-{
-    static uint8_t file[MONDGURT_FILE + 1]; /* so that a longer file is refused */
-    FILE *from = fopen(name, "rb");
-    if (from == NULL) {
-        perror(name);
-        return 0;
-    }
-    size_t length = fread(file, 1, sizeof file, from);
-    fclose(from);
-    uint32_t answer = mondgurt_load(&a_first, file, length);
-    if (answer != 0) {
-        fprintf(stderr, "%s: refusal %" PRIu32 " of record %" PRIu32, name, MONDGURT_REFUSAL(answer), MONDGURT_RECORD(answer));
-        if (MONDGURT_BYTE(answer) != 0)
-            fprintf(stderr, " at byte %" PRIu32, MONDGURT_BYTE(answer));
-        fputs("\n", stderr);
-        return 0;
-    }
-    b_first = a_first;
-    return 1;
-}
-
 static void show(const char *name, uint64_t message)
 {
     int64_t value;
@@ -51,7 +30,7 @@ static void show(const char *name, uint64_t message)
     else if (answer == MONDGURT_NOT_RECEIVED)
         printf("  %s: not received\n", name);
     else
-        printf("  %s: answer %d\n", name, answer);
+        printf("  %s: answer %s\n", name, mondgurt_answer_name(answer));
 }
 
 /* A round with these controller statuses of the two channels: 1 if every call was done and the nodes are equal. */
@@ -73,12 +52,9 @@ static int play(const char *title, uint8_t valid_a, uint8_t valid_b)
 
 int main(int count, char **words)
 {
-    if (count != 2) {
-        fprintf(stderr, "usage: %s LAYOUT\n", words[0]);
+    if (!load(&a_first, count, words))
         return 2;
-    }
-    if (!load(words[1]))
-        return 2;
+    b_first = a_first;
     puts("Channel A says pedal 677 and rate -3, channel B says pedal 680 and rate -4.");
     puts("One node gets A and then B in each round, the other gets B and then A.");
     int equal = play("Both channels come:", 1, 1);

@@ -4,8 +4,9 @@ from __future__ import annotations
 
 from typing import Optional
 
-from .records import DIRECTIONS, ORDERS, SIGNS, TRIGGERS, Bit, Field, Frame, Layout, Message, byte_and_bit
-from .words import aligned, counted
+from .records import AGREEMENTS, DIRECTIONS, ORDERS, SIGNS, TRIGGERS, Bit, Field, Frame, Layout, Message, byte_and_bit
+from .text import filter_words, value_words
+from .words import aligned, counted, shown
 
 LETTERS = "ABCDEFGHIJKLMNOPQRSTUVWXYZabcdef"
 
@@ -44,21 +45,30 @@ def frame_words(frame: Frame) -> list[str]:
 
 
 def field_words(layout: Layout, field: Field) -> list[str]:
-    """What a field's and its message's records say, in words."""
+    """What a message is and where it lies in a frame, in words."""
     message, frame = layout.messages[field.message], layout.frames[field.frame]
     words = [counted(message.width, "bit"), SIGNS[message.sign], f"{ORDERS[frame.order]} at {field.start}"]
     return words + ([f"status {field.place}"] if field.present else [])
 
 
+def rule_words(message: Message) -> list[str]:
+    """How the instances of a message agree, if it is received, its filter and its initial value, in words."""
+    agreement = [] if message.direction else [AGREEMENTS[message.agreement]]
+    return [*agreement, f"filter {filter_words(message)}", f"initial {value_words(message, message.initial)}"]
+
+
 def picture(layout: Layout, frame: Frame) -> str:
     """A frame for the terminal: a row for each byte, a column for each bit, and its messages below."""
-    lines = [f"{frame.name}: {', '.join(frame_words(frame))}", ""]
+    lines = [f"{shown(frame.name)}: {', '.join(frame_words(frame))}", ""]
     lines.append(" " * 17 + "".join(f"{bit:4}" for bit in range(7, -1, -1)))
     for byte, row in enumerate(rows(layout, frame)):
         lines.append(f"byte {byte:<3}{places(frame, byte):>9}" + "".join(f"{label(bit):>4}" for bit in row))
     messages = [(layout.messages[field.message], field) for field in layout.fields_in(frame)]
-    legend = [[f"  {letter(message)}", message.name, *field_words(layout, field)] for message, field in messages]
-    return "".join(line + "\n" for line in [*lines, "", *aligned(legend)])
+    key = [[f"  {letter(message)}", shown(message.name), *field_words(layout, field)] for message, field in messages]
+    lines.append("")
+    for line, (message, _) in zip(aligned(key), messages):
+        lines += [line, f"     {'  '.join(rule_words(message))}"]
+    return "".join(line + "\n" for line in lines)
 
 
 KEY = "A3 is bit 3 of message A, A* its status bit, and a dot is a free bit.\n"

@@ -132,6 +132,10 @@ class Layout:
         records: list[Record] = [*self.frames, *self.messages, *self.fields]
         return b"".join(map(encode, records))
 
+    def record_of(self, field: Field) -> int:
+        """The place of a field's record in the file, from 0."""
+        return len(self.frames) + len(self.messages) + self.fields.index(field)
+
     def fields_of(self, message: Message) -> list[Field]:
         """The fields of a message, in the order of their frames."""
         return [field for field in self.fields if field.message == message.number]

@@ -1,23 +1,16 @@
-"""Layouts as text. A line is a frame, a message, or a field of the message above it; `#` begins a comment:
+"""Layouts as text, in the grammar of grammar.py. Frames and messages are numbered as they are written; fields sorted.
 
-    frame NAME LENGTH bytes  [little | big]  [received | sent]  [time | event]
-    message NAME WIDTH bits  [unsigned | signed | float]  [received | sent]  [pick any | average | vote]
-                             [filter FILTER]  [initial VALUE]
-    in FRAME at START  [status PLACE]
-
-What stands in brackets may come in any order. Not said, it is the first choice, `filter true`, `initial 0`, and no
-status bit. Frames and messages are numbered as they are written; fields are put in order.
 A value is decimal, or hexadecimal (0x3FF) as the pattern of the message's bits. That of a float may have a fraction and
-an exponent (-1.5e-3); it is rounded once, to the nearest float. FILTER is one of records.FILTERS.
+an exponent (-1.5e-3); it is rounded once, to the nearest float.
 """
 
 from __future__ import annotations
 
 import re
-from collections.abc import Iterable
-from typing import NamedTuple
+from typing import Callable, Optional
 
 from .floats import finite, nearest, shortest
+from .grammar import NAME, NUMBER, Mistake, Mistakes, Said, Word, check_characters, said_in, words_in
 from .records import (
     AGREEMENTS,
     DIRECTIONS,
@@ -34,135 +27,32 @@ from .records import (
     Message,
     Record,
 )
-from .verdict import FLOATS, Refused, accept
-from .words import aligned, counted, either
+from .verdict import FLOATS, NAMES, fault_of, no_field
+from .words import aligned, counted, shown
 
-# A phrase sets a part of a record. Its words in capitals stand for names and numbers, and set the parts of that name.
-Phrases = dict[str, tuple[str, int]]
-
-
-def choices(part: str, phrases: Iterable[str]) -> Phrases:
-    """The phrases that set a part to 0, 1, 2 .."""
-    return {phrase: (part, number) for number, phrase in enumerate(phrases)}
+# The most digits of a whole number, of a pattern, of a float and of its exponent. No value needs as many, and many more
+# would take long to calculate with.
+DIGITS, PATTERN_DIGITS, FLOAT_DIGITS, EXPONENT_DIGITS = 10, 8, 1000, 8
 
 
-BEGIN = {
-    "frame NAME LENGTH bytes": ("kind", 1),
-    "frame NAME LENGTH byte": ("kind", 1),
-    "message NAME WIDTH bits": ("kind", 2),
-    "message NAME WIDTH bit": ("kind", 2),
-    "in FRAME at START": ("kind", 3),
-}
-# What may follow, by the kind.
-FOLLOW = {
-    "1": {**choices("order", ORDERS), **choices("direction", DIRECTIONS), **choices("trigger", TRIGGERS)},
-    "2": {
-        **choices("sign", SIGNS),
-        **choices("direction", DIRECTIONS),
-        **choices("agreement", AGREEMENTS),
-        **choices("filter", (f"filter {words}" for words in FILTERS)),
-        "initial INITIAL": ("initial", 0),
-    },
-    "3": {"status PLACE": ("present", 1)},
-}
-
-# A word that looks like a number is one word to its end, so that a mistake shows all of it.
-WORD = re.compile(r"-?[\w.]+(?:(?<=[0-9.][eE])[-+][\w.]*)?|[<>!]=|\S")
-NAME = re.compile(r"[A-Za-z_]\w*", re.ASCII)
-NUMBER = re.compile(r"-?[0-9]{1,10}|0x[0-9A-Fa-f]{1,8}")
-# The value of a float; up to eight digits of an exponent are more than any float needs and never too many for Decimal.
-DECIMAL = re.compile(r"-?[0-9]+(?:\.[0-9]+)?(?:[eE][-+]?[0-9]{1,8})?")
+def check_digits(part: str, word: Word, digits: str, most: int) -> None:
+    """A number has no more digits than it may have."""
+    if len(digits) > most:
+        raise Mistake(word, f"{NAMES.get(part, part)} {shown(word.text)} has too many digits, {most} at most")
 
 
-class Word(NamedTuple):
-    """A word with its line and column, both from 1."""
-
-    text: str
-    line: int
-    column: int
-
-
-# What a line says of each part.
-Said = dict[str, Word]
-
-
-class Mistake(Exception):
-    """What is wrong at a word of a text."""
-
-    def __init__(self, word: Word, words: str) -> None:
-        super().__init__(words)
-        self.line, self.column = word.line, word.column
-
-
-def fits(pattern: str, word: Word) -> bool:
-    """Whether a word can stand where a phrase has this one."""
-    if not pattern.isupper():
-        return word.text == pattern
-    if pattern in ("NAME", "FRAME"):
-        return bool(NAME.fullmatch(word.text))
-    # The sign may be said later, so a value is any number here.
-    return bool(NUMBER.fullmatch(word.text) or pattern.lower() in VALUES and DECIMAL.fullmatch(word.text))
-
-
-def meaning(pattern: str) -> str:
-    """What a word of a phrase wants to see."""
-    if not pattern.isupper():
-        return f"`{pattern}`"
-    if pattern in ("NAME", "FRAME"):
-        return "a name" if pattern == "NAME" else "the name of a frame"
-    return "a number" if pattern.lower() in VALUES else "a whole number"
-
-
-def expected(patterns: Iterable[str]) -> str:
-    """What phrases want to see, as an English list."""
-    return either(dict.fromkeys(map(meaning, patterns)))
-
-
-def take(words: list[Word], phrases: Phrases) -> Said:
-    """What the phrase at the start of the words says; it is removed. No phrase is the beginning of another."""
-    first = words[0]
-    fitting = {tuple(phrase.split()): sets for phrase, sets in phrases.items()}
-    named = {}
-    at = 0
-    while at < min(map(len, fitting)):
-        word = words[0]
-        going_on = {phrase: sets for phrase, sets in fitting.items() if fits(phrase[at], word)}
-        if not going_on:
-            found = f"`{word.text}`" if word.text else "the end of the line"
-            raise Mistake(word, f"expected {expected(phrase[at] for phrase in fitting)}, found {found}")
-        fitting = going_on
-        pattern = min(fitting)[at]
-        if pattern.isupper():
-            named[pattern.lower()] = word
-        del words[0]
-        at += 1
-    [(part, number)] = fitting.values()
-    return {part: first._replace(text=str(number)), **named}
-
-
-def said_in(line: int, text: str) -> Said:
-    """What a line says of each part; an empty one says nothing."""
-    text = text.split("#")[0].rstrip()
-    words = [Word(found.group(), line, found.start() + 1) for found in WORD.finditer(text)]
-    words.append(Word("", line, len(text) + 1))
-    said: Said = {}
-    while words[0].text:
-        more = take(words, FOLLOW[said["kind"].text] if said else BEGIN)
-        part, word = next(iter(more.items()))
-        if part in said:
-            raise Mistake(word, f"the {part} is said twice")
-        said.update(more)
-    return said
-
-
-def whole(text: str) -> int:
-    """A whole number, decimal or hexadecimal."""
-    return int(text, 16 if text.startswith("0x") else 10)
+def whole(part: str, word: Word) -> int:
+    """The whole number that a word stands for, decimal or hexadecimal."""
+    if word.text.startswith("0x"):
+        check_digits(part, word, word.text[2:], PATTERN_DIGITS)
+        return int(word.text, 16)
+    check_digits(part, word, word.text.lstrip("-"), DIGITS)
+    return int(word.text)
 
 
 def numbers(said: Said) -> dict[str, int]:
     """The parts that are said in numbers, without the values of a message."""
-    return {part: whole(word.text) for part, word in said.items() if part not in ("kind", "name", "frame", *VALUES)}
+    return {part: whole(part, word) for part, word in said.items() if part not in ("kind", "name", "frame", *VALUES)}
 
 
 def frame_of(number: int, said: Said) -> Frame:
@@ -176,60 +66,151 @@ def message_of(number: int, said: Said) -> Message:
     return message._replace(**{part: value_of(message, part, said[part]) for part in VALUES if part in said})
 
 
+def field_of(message: int, frame: int, said: Said) -> Field:
+    """The field that a line describes."""
+    return Field(message, frame, **numbers(said))
+
+
 def value_of(message: Message, part: str, word: Word) -> int:
     """The value that a word stands for, of a float its pattern."""
     is_pattern = word.text.startswith("0x")
     if message.sign == FLOAT and not is_pattern:
-        pattern = nearest(word.text)
-        if not finite(pattern):
-            raise Mistake(word, f"{part} {word.text} is not {FLOATS}")
-        return pattern
+        return float_of(part, word)
     if not NUMBER.fullmatch(word.text):
         # A float may have been meant.
-        wanted = f"expected a whole number of at most 10 digits, as {message.name} is not a float"
-        raise Mistake(word, f"{wanted}, found `{word.text}`")
-    value = whole(word.text)
+        wanted = f"expected a whole number, as {shown(message.name)} is not a float"
+        raise Mistake(word, f"{wanted}, found `{shown(word.text)}`")
+    value = whole(part, word)
     if message.sign == SIGNED and is_pattern and 1 <= message.width <= 32 and value >> message.width - 1 == 1:
         value -= 2**message.width
     return value
 
 
-def field_of(message: int, frames: list[str], said: Said) -> Field:
-    """The field that a line describes."""
-    frame = said["frame"]
-    if frame.text not in frames:
-        raise Mistake(frame, f"there is no frame {frame.text}")
-    return Field(message, frames.index(frame.text), **numbers(said))
+def float_of(part: str, word: Word) -> int:
+    """The pattern of the float that a word stands for."""
+    digits, *exponent = re.split("[eE][-+]?", word.text.lstrip("-"))
+    check_digits(part, word, digits.replace(".", ""), FLOAT_DIGITS)
+    check_digits(f"the exponent of {part}", word, "".join(exponent), EXPONENT_DIGITS)
+    pattern = nearest(word.text)
+    if not finite(pattern):
+        raise Mistake(word, f"{part} {shown(word.text)} is not {FLOATS}")
+    return pattern
+
+
+class Reading:
+    """A text on its way to a layout: what its lines say, and what is wrong so far.
+
+    Of each line one mistake is told. What follows from a wrong line alone is not: nothing is tested that needs the
+    frame or the message that it may have meant.
+    """
+
+    def __init__(self) -> None:
+        self.mistakes: list[Mistake] = []
+        self.frames: dict[str, Said] = {}
+        self.messages: dict[str, Said] = {}
+        self.fields: list[tuple[str, Said]] = []  # with the names of their messages
+        self.message: Optional[str] = None  # the name of the message above, empty where its line is wrong
+        self.placed: set[Optional[str]] = set()  # the names of messages that have fields, right or wrong
+        self.meant: set[str] = set()  # the words of wrong lines, which may be names of frames
+        self.nameless = False  # whether a wrong frame has no name, so that it may have any
+        self.doubled: set[str] = set()  # the names that were given twice
+        self.lines: dict[Record, Said] = {}
+
+    def read_line(self, line: int, text: str) -> None:
+        """Take up what a line says, or what is wrong with it."""
+        words = words_in(line, text)
+        try:
+            check_characters(line, text)
+            self.take_up(said_in(words))
+        except Mistake as mistake:
+            self.mistakes.append(mistake)
+            if words[0].text:
+                self.leave_out(words)
+
+    def leave_out(self, words: list[Word]) -> None:
+        """Note what a wrong line may have meant: a field of the message above, or else a frame or another message."""
+        self.placed.add(self.message)
+        if words[0].text != "in":
+            self.message = ""
+            self.meant.update(word.text for word in words)
+            self.nameless |= words[0].text == "frame" and not NAME.fullmatch(words[1].text)
+
+    def take_up(self, said: Said) -> None:
+        """Take up a frame, a message or a field, whose numbers are looked at whatever the lines above are."""
+        numbers(said)
+        if "frame" in said:
+            if self.message is None:
+                raise Mistake(said["kind"], "expected a message before its fields")
+            self.placed.add(self.message)
+            self.fields.append((self.message, said))
+        elif said:
+            known = self.frames if "length" in said else self.messages
+            name = said["name"]
+            if name.text in known:
+                self.doubled.add(name.text)
+                line = known[name.text]["name"].line
+                raise Mistake(name, f"the name {shown(name.text)} is taken in line {line}")
+            known[name.text] = said
+            if known is self.messages:
+                self.message = name.text
+
+    def layout(self) -> Layout:
+        """The layout of the lines that are right."""
+        layout = Layout()
+        frames = self.add_all(layout, frame_of, self.frames)
+        messages = self.add_all(layout, message_of, self.messages)
+        fields = []
+        for name, said in self.fields:
+            frame = said["frame"]
+            if frame.text not in self.frames and frame.text not in self.meant and not self.nameless:
+                self.mistakes.append(Mistake(frame, f"there is no frame {shown(frame.text)}"))
+            elif name in messages and frame.text in frames and frame.text not in self.doubled:
+                fields.append((messages[name], frames[frame.text], said))
+        for *numbers, said in sorted(fields, key=lambda field: field[:2]):
+            self.add(layout, said, field_of, *numbers)
+        for message in layout.messages:
+            if message.name not in self.placed:
+                self.mistakes.append(Mistake(self.messages[message.name]["name"], no_field(message).words))
+        return layout
+
+    def add_all(self, layout: Layout, make: Callable[..., Record], lines: dict[str, Said]) -> dict[str, int]:
+        """Add frames or messages to a layout; their numbers by their names."""
+        numbers: dict[str, int] = {}
+        for name, said in lines.items():
+            if self.add(layout, said, make, len(numbers)):
+                numbers[name] = len(numbers)
+        return numbers
+
+    def add(self, layout: Layout, said: Said, make: Callable[..., Record], *numbers: int) -> bool:
+        """Add a record to a layout if it is right."""
+        try:
+            record = make(*numbers, said)
+            self.test(layout, record, said)
+        except Mistake as mistake:
+            self.mistakes.append(mistake)
+            return False
+        layout.add(record)
+        self.lines[record] = said
+        return True
+
+    def test(self, layout: Layout, record: Record, said: Said) -> None:
+        """The reader of layout files finds no fault with a record."""
+        fault = fault_of(layout, record)
+        if fault:
+            word = said.get(fault.part) or said.get("name") or said["frame"]
+            other = fault.other and f"line {self.lines[fault.other]['kind'].line}"
+            raise Mistake(word, fault.told(other))
 
 
 def parse(text: str) -> Layout:
-    """The layout that a text describes, or Mistake."""
-    frames: dict[str, Said] = {}
-    messages: dict[str, Said] = {}
-    fields: list[tuple[int, Said]] = []
+    """The layout that a text describes, or Mistakes."""
+    reading = Reading()
     for line, content in enumerate(text.split("\n"), 1):
-        said = said_in(line, content)
-        if "frame" in said:
-            if not messages:
-                raise Mistake(said["kind"], "expected a message before its fields")
-            fields.append((len(messages) - 1, said))
-        elif said:
-            known = frames if "length" in said else messages
-            name = said["name"]
-            if name.text in known:
-                raise Mistake(name, f"the name {name.text} is taken in line {known[name.text]['name'].line}")
-            known[name.text] = said
-    lines: list[tuple[Record, Said]] = []
-    lines += [(frame_of(number, said), said) for number, said in enumerate(frames.values())]
-    lines += [(message_of(number, said), said) for number, said in enumerate(messages.values())]
-    placed = [(field_of(message, list(frames), said), said) for message, said in fields]
-    lines += sorted(placed, key=lambda line: line[0][:2])
-    try:
-        return accept(record for record, _ in lines)
-    except Refused as refused:
-        said = lines[refused.record][1]
-        name = said.get("name") or said["frame"]
-        raise Mistake(said.get(refused.part, name), refused.words) from None
+        reading.read_line(line, content)
+    layout = reading.layout()
+    if reading.mistakes:
+        raise Mistakes(reading.mistakes)
+    return layout
 
 
 def value_words(message: Message, value: int) -> str:

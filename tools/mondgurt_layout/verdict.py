@@ -4,6 +4,7 @@ from __future__ import annotations
 
 from collections.abc import Iterable, Iterator
 from heapq import merge
+from itertools import chain
 from operator import attrgetter
 from typing import NamedTuple, Optional
 
@@ -27,7 +28,7 @@ from .records import (
     Record,
     decode,
 )
-from .words import counted, either
+from .words import counted, either, shown
 
 SIZE, ORDER, RANGE, REF, GROUP, PLACE, NOFIELD, RESERVED, UNUSED, WIDTH = range(1, 11)
 REFUSALS = ("", "SIZE", "ORDER", "RANGE", "REF", "GROUP", "PLACE", "NOFIELD", "RESERVED", "UNUSED", "WIDTH")
@@ -55,20 +56,24 @@ FLOATS = f"{shortest(MINUS | LARGEST)} to {shortest(LARGEST)}, the values of a f
 
 # Only the first fault counts, so a test may rely on those before it.
 class Fault(NamedTuple):
-    """The refusal, the part of a record that is at fault, what is wrong with it, and the byte if one is given."""
+    """The refusal, the part of a record at fault, what is wrong with it, and the byte or the other field if given."""
 
     number: int
     part: str
     words: str
     byte: Optional[int] = None
+    other: Optional[Field] = None
+
+    def told(self, other: Optional[str]) -> str:
+        """What is wrong, with the place of the other field."""
+        return f"{self.words}, {other}" if other else self.words
 
 
 class Refused(Exception):
     """A refusal: the record, its fault, and where that is in the words of the listing program."""
 
-    def __init__(self, record: int, fault: Fault) -> None:
-        self.record = record
-        self.number, self.part, self.words, self.byte = fault
+    def __init__(self, record: int, fault: Fault, other: Optional[str] = None) -> None:
+        self.record, self.number, self.byte, self.words = record, fault.number, fault.byte, fault.told(other)
         self.at = f"record {record}" if self.byte is None else f"record {record} byte {self.byte}"
         super().__init__(f"refused {self.number} {REFUSALS[self.number]} {self.at}: {self.words}")
 
@@ -85,10 +90,12 @@ class Range(NamedTuple):
 
 
 def read(file: bytes) -> Layout:
-    """The layout of a file, or Refused."""
-    if len(file) % RECORD or len(file) > LONGEST:
-        words = f"{len(file)} bytes are not a multiple of {RECORD} up to {LONGEST}"
-        raise Refused(0, Fault(SIZE, "length", words))
+    """The layout of a file, or Refused. One that is too long need not be whole."""
+    if len(file) > LONGEST:
+        raise Refused(0, Fault(SIZE, "length", f"a layout file has at most {LONGEST} bytes"))
+    if len(file) % RECORD:
+        are = "is" if len(file) == 1 else "are"
+        raise Refused(0, Fault(SIZE, "length", f"{counted(len(file), 'byte')} {are} not a multiple of {RECORD}"))
     return accept(decode(file[at : at + RECORD]) for at in range(0, len(file), RECORD))
 
 
@@ -98,15 +105,24 @@ def accept(records: Iterable[Optional[Record]]) -> Layout:
     for place, record in enumerate(records):
         if record is None:
             raise Refused(place, Fault(ORDER, "kind", "the kind is not 1 to 3"))
-        for faults in TESTS:
-            for fault in faults(layout, record):
-                raise Refused(place, fault)
+        fault = fault_of(layout, record)
+        if fault:
+            raise Refused(place, fault, fault.other and f"record {layout.record_of(fault.other)}")
         layout.add(record)
     for message in layout.messages:
         if not layout.fields_of(message):
-            place = len(layout.frames) + message.number
-            raise Refused(place, Fault(NOFIELD, "name", f"{message.name} has no field"))
+            raise Refused(len(layout.frames) + message.number, no_field(message))
     return layout
+
+
+def fault_of(layout: Layout, record: Record) -> Optional[Fault]:
+    """The first fault of a record that follows those of a layout."""
+    return next(chain.from_iterable(faults(layout, record) for faults in TESTS), None)
+
+
+def no_field(message: Message) -> Fault:
+    """The fault of a message without a field."""
+    return Fault(NOFIELD, "name", f"{shown(message.name)} has no field")
 
 
 def order_faults(layout: Layout, record: Record) -> Iterator[Fault]:
@@ -114,7 +130,8 @@ def order_faults(layout: Layout, record: Record) -> Iterator[Fault]:
     if isinstance(record, Field):
         before = layout.fields[-1][:2] if layout.fields else (-1, -1)
         if record[:2] == before:
-            yield Fault(ORDER, "frame", "the message has a field in this frame already")
+            words = "the message has a field in this frame already"
+            yield Fault(ORDER, "frame", words, other=layout.fields[-1])
         if record[:2] < before:
             yield Fault(ORDER, "frame", "the pair of message and frame is not above that of the field before")
     else:
@@ -242,7 +259,8 @@ def ref_faults(layout: Layout, record: Record) -> Iterator[Fault]:
     message, frame = layout.messages[record.message], layout.frames[record.frame]
     if message.direction != frame.direction:
         directions = DIRECTIONS[message.direction], DIRECTIONS[frame.direction]
-        yield Fault(REF, "frame", f"{message.name} is {directions[0]} and {frame.name} is {directions[1]}")
+        words = f"{shown(message.name)} is {directions[0]} and {shown(frame.name)} is {directions[1]}"
+        yield Fault(REF, "frame", words)
 
 
 def group_faults(layout: Layout, record: Record) -> Iterator[Fault]:
@@ -250,19 +268,20 @@ def group_faults(layout: Layout, record: Record) -> Iterator[Fault]:
     if not isinstance(record, Field):
         return
     message = layout.messages[record.message]
+    name = shown(message.name)
     earlier = layout.fields_of(message)
     if len(earlier) == 8:
-        yield Fault(GROUP, "frame", f"{message.name} has 8 fields already")
+        yield Fault(GROUP, "frame", f"{name} has 8 fields already")
     if len(layout.fields) == 128:
         yield Fault(GROUP, "frame", "there are 128 fields already")
     if earlier and earlier[0].present != record.present:
-        other = layout.frames[earlier[0].frame].name
+        other = shown(layout.frames[earlier[0].frame].name)
         if record.present:
-            yield Fault(GROUP, "present", f"{message.name} has no status bit in {other}, so it can have none here")
+            yield Fault(GROUP, "present", f"{name} has no status bit in {other}, so it can have none here")
         else:
-            yield Fault(GROUP, "frame", f"{message.name} has a status bit in {other}, so it needs one here")
+            yield Fault(GROUP, "frame", f"{name} has a status bit in {other}, so it needs one here")
     if message.direction and message.filter and not record.present:
-        yield Fault(GROUP, "frame", f"{message.name} is sent through a filter, so it needs a status bit")
+        yield Fault(GROUP, "frame", f"{name} is sent through a filter, so it needs a status bit")
 
 
 def place_faults(layout: Layout, record: Record) -> Iterator[Fault]:
@@ -271,14 +290,16 @@ def place_faults(layout: Layout, record: Record) -> Iterator[Fault]:
         return
     frame = layout.frames[record.frame]
     last = 8 * frame.length - 1
-    used = layout.bits_in(frame)
+    owners = {place: field for field in layout.fields_in(frame) for place, _ in layout.bits_of(field)}
     for place, bit in layout.bits_of(record):
         part = "place" if bit.bit is None else "start"
         if not 0 <= place <= last:
-            yield Fault(PLACE, part, f"bit {place} is not in {frame.name}, which has bits 0 to {last}")
-        if place in used:
-            yield Fault(PLACE, part, f"bit {place} of {frame.name} is taken by {used[place].message.name}")
-        used[place] = bit
+            yield Fault(PLACE, part, f"bit {place} is not in {shown(frame.name)}, which has bits 0 to {last}")
+        if place in owners:
+            owner = owners[place]
+            words = f"bit {place} of {shown(frame.name)} is taken by {shown(layout.messages[owner.message].name)}"
+            yield Fault(PLACE, part, f"{words} itself") if owner is record else Fault(PLACE, part, words, other=owner)
+        owners[place] = record
 
 
 TESTS = (order_faults, byte_faults, ref_faults, group_faults, place_faults)

@@ -1,4 +1,4 @@
-"""How numbers, lists and tables are printed."""
+"""How numbers, lists, tables and pieces of input are printed."""
 
 from __future__ import annotations
 
@@ -21,3 +21,14 @@ def aligned(lines: list[list[str]]) -> list[str]:
     """Lines whose pieces stand below each other."""
     widths = [max(map(len, pieces)) for pieces in zip_longest(*lines, fillvalue="")]
     return ["  ".join(map(str.ljust, line, widths)).rstrip() for line in lines]
+
+
+def printable(text: str) -> str:
+    """A text in which each character that cannot be seen is told by its number: \\x1b for an escape."""
+    return "".join(c if c.isprintable() else c.encode("unicode_escape").decode() for c in text)
+
+
+def shown(text: str, most: int = 40) -> str:
+    """A piece of input as it is told: printable, and if it is long its beginning."""
+    told = printable(text[: most + 1])
+    return told if len(told) <= most else told[:most] + ".."

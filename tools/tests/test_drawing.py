@@ -1,15 +1,10 @@
-"""Pictures of frames against drawings made by hand and against the paper's packed bytes."""
+"""Frames in the terminal against drawings made by hand and against the paper's packed bytes."""
 
 import unittest
-import xml.etree.ElementTree as xml
-from random import Random
 
-from mondgurt_layout import svg
 from mondgurt_layout.drawing import picture, rows
 from mondgurt_layout.records import Layout
 from mondgurt_layout.text import parse
-
-from .layouts import random_layout
 
 LITTLE = """\
 a: frame 0, 2 bytes, little order, received, time
@@ -19,6 +14,7 @@ byte 0       7..0  A4  A3  A2  A1  A0   .  A*   .
 byte 1      15..8   .   .   .  A9  A8  A7  A6  A5
 
   A  m  10 bits  unsigned  little at 3  status 1
+     pick any  filter true  initial 0
 """
 BIG = """\
 a: frame 0, 2 bytes, big order, received, time
@@ -28,6 +24,18 @@ byte 0       0..7   .  A*   .  A9  A8  A7  A6  A5
 byte 1      8..15  A4  A3  A2  A1  A0   .   .   .
 
   A  m  10 bits  unsigned  big at 3  status 1
+     pick any  filter true  initial 0
+"""
+SENT = """\
+aaaaaaaaaaaaaaaaaaaaaaaaaaaaaaaaaaaaaaaa..: frame 0, 1 byte, little order, sent, event
+
+                    7   6   5   4   3   2   1   0
+byte 0       7..0  B*   .  B2  B1  B0  A2  A1  A0
+
+  A  aaaaaaaaaaaaaaaaaaaaaaaaaaaaaaaaaaaaaaaa..  3 bits  unsigned  little at 0
+     filter true  initial 0
+  B  m                                           3 bits  signed    little at 3  status 7
+     filter new & 0x6 changed  initial -4
 """
 FLOAT = """\
 a: frame 0, 5 bytes, little order, received, time
@@ -40,6 +48,7 @@ byte 3     31..24 A27 A26 A25 A24 A23 A22 A21 A20
 byte 4     39..32   .   .   .   . A31 A30 A29 A28
 
   A  m  32 bits  float  little at 4  status 0
+     average  filter -1.5 <= new <= 1.5  initial 0.1
 """
 
 
@@ -64,22 +73,20 @@ class Drawing(unittest.TestCase):
             self.assertEqual(drawn, picture(layout, layout.frames[0]))
 
     def test_float(self) -> None:
-        layout = parse("frame a 5 bytes\nmessage m 32 bits float\nin a at 4 status 0\n")
+        message = "message m 32 bits float average filter -1.5 <= new <= 1.5 initial 0.1"
+        layout = parse(f"frame a 5 bytes\n{message}\nin a at 4 status 0\n")
         self.assertEqual(FLOAT, picture(layout, layout.frames[0]))
-        self.assertIn(">32 bits, float, little at 4, status 0<", svg.picture(layout, layout.frames, "a"))
+
+    def test_sent_with_long_names(self) -> None:
+        long = "a" * 100
+        first = f"message {long} 3 bits sent\nin {long} at 0\n"
+        second = f"message m 3 bits sent signed filter new & 0x6 changed initial -4\nin {long} at 3 status 7\n"
+        layout = parse(f"frame {long} 1 byte sent event\n{first}{second}")
+        self.assertEqual(SENT, picture(layout, layout.frames[0]))
 
     def test_p1_and_p3(self) -> None:
         self.assertEqual(bytes.fromhex("28 15"), packed(ten_bits("little"), 677))
         self.assertEqual(bytes.fromhex("15 28"), packed(ten_bits("big"), 677))
-
-    def test_svg(self) -> None:
-        random = Random(3)
-        for _ in range(20):
-            layout = random_layout(random)
-            root = xml.fromstring(svg.picture(layout, layout.frames, "a < b"))
-            words = [element.text for element in root.iter()]
-            self.assertIn("a < b", words)
-            self.assertEqual(sum(field.present for field in layout.fields), words.count("status"))
 
 
 if __name__ == "__main__":

@@ -4,15 +4,17 @@ import os
 import pty
 import socket
 import subprocess
+import sys
 import tty
 import unittest
 from pathlib import Path
+from random import Random
 
 from mondgurt_layout import text
 
 from .layouts import SAMPLES
 
-PROGRAM = str(Path(__file__).resolve().parents[1] / "list")
+PROGRAM, LAYOUT = (str(Path(__file__).resolve().parents[1] / name) for name in ("list", "layout"))
 
 LARGEST = (SAMPLES / "largest.layout").read_bytes()
 LISTING = text.listing(text.parse((SAMPLES / "largest.txt").read_text()))
@@ -55,6 +57,16 @@ class Listing(unittest.TestCase):
             self.assertEqual(SIZE, self.run_list(stdin=zeros))
         with subprocess.Popen(["yes"], stdout=subprocess.PIPE) as yes:
             self.assertEqual(SIZE, self.run_list(stdin=yes.stdout))
+
+    def test_the_layout_tool_prints_the_same(self) -> None:
+        paper = (SAMPLES / "paper.layout").read_bytes()
+        noise = Random(7).randbytes(240)
+        damaged = [paper[:10], b"\0" + paper[1:], b"\xc8" + paper[1:], b"i" + paper[1:]]
+        for raw in (b"", paper, LARGEST, LARGEST + b"\0", bytes(24), noise, *damaged):
+            _, printed, _ = self.run_list(input=raw)
+            refused = int(printed.startswith("refused"))
+            told = self.run_list(sys.executable, LAYOUT, "list", "/dev/stdin", input=raw)
+            self.assertEqual((refused, printed, ""), told)
 
     def test_closed(self) -> None:
         for shell in ("sh", "bash"):

@@ -1,4 +1,4 @@
-"""docs/PROMISES.md names every must-fail edit, and as what it is: of code, of a definition, or of both. A control has the name of the edit that it stands beside."""
+"""docs/PROMISES.md names every must-fail edit, and as what it is: of code, of a definition, or of both. A control has the name of the edit beside it."""
 
 import re
 import unittest

@@ -3,8 +3,9 @@
 import unittest
 from random import Random
 
+from mondgurt_layout.grammar import Mistakes
 from mondgurt_layout.records import FILTERS, Field, Frame, Message
-from mondgurt_layout.text import Mistake, listing, parse, write
+from mondgurt_layout.text import listing, parse, write
 from mondgurt_layout.verdict import read
 
 from .layouts import SAMPLES, file, put, random_layout
@@ -12,6 +13,7 @@ from .layouts import SAMPLES, file, put, random_layout
 FRAME = "frame a 2 bytes\n"
 MESSAGE = FRAME + "message m 10 bits\n"
 FIELD = MESSAGE + "  in a at 3\n"
+ONE_BYTE = "".join(f"frame f{number} 1 byte\n" for number in range(5))
 NINE = "".join(f"frame f{number} 2 bytes\n" for number in range(9))
 MANY = "".join(f"frame f{number} 32 bytes\n" for number in range(5)) + "".join(
     f"message m{number} 1 bit\n" + "".join(f"in f{frame} at {number}\n" for frame in range(4)) for number in range(32)
@@ -24,11 +26,12 @@ FLOAT = FRAME + "message m 32 bits float "
 FLOATS = "-3.4028235e38 to 3.4028235e38, the values of a float"
 NO_FLOAT = "sign 2 (float) is not 0 (unsigned) or 1 (signed), as a float has 32 bits"
 NO_MASK = "is not 0, 1, 4, 5 or 8 to 13, as a float takes no mask"
-WHOLE = "expected a whole number of at most 10 digits, as m is not a float"
+WHOLE = "expected a whole number, as m is not a float"
 NO_DECIMALS = [
     *("nan", "NaN", "inf", "-inf", "infinity", "1.5f", "1.", ".5", "-.5", "1..5", "1.2.3", "1_000.0", "e5", "1e"),
-    *("1e-", "1e-x", "1e5.0", "1.e-3", "1e123456789", "0x", "-0x1", "0x123456789", "0x1.8", "0x1e-3"),
+    *("1e-", "1e-x", "1e5.0", "1.e-3", "0x", "-0x1", "0x1.8", "0x1e-3"),
 ]
+LONG_NAME, CUT, LONG_NUMBER = "a" * 1000, "a" * 40 + "..", "7" * 1000
 FOLLOWING = (
     "expected `unsigned`, `signed`, `float`, `received`, `sent`, `pick`, `average`, `vote`, `filter` or `initial`"
 )
@@ -52,7 +55,7 @@ WRITTEN = [
     ("0x1", 1),
 ]
 
-# A text, and where and how it is wrong.
+# A text with one mistake, and where and how it is wrong.
 MISTAKES = [
     ("fram a 2 bytes", "1:1: expected `frame`, `message` or `in`, found `fram`"),
     ("frame 2 bytes", "1:7: expected a name, found `2`"),
@@ -80,14 +83,39 @@ MISTAKES = [
     (FRAME + "message m 10 bits initial 1.5", f"2:27: {WHOLE}, found `1.5`"),
     (FRAME + "message m 10 bits initial 1e2", f"2:27: {WHOLE}, found `1e2`"),
     (FRAME + "message m 10 bits initial 3.0 signed", f"2:27: {WHOLE}, found `3.0`"),
-    (FRAME + "message m 10 bits initial 12345678901", f"2:27: {WHOLE}, found `12345678901`"),
     (FRAME + "message m 10 bits filter 0 <= new <= 1.5", f"2:38: {WHOLE}, found `1.5`"),
     *((FLOAT + f"initial {word}", f"2:33: expected a number, found `{word}`") for word in NO_DECIMALS),
     (FLOAT + "initial +1.5", "2:33: expected a number, found `+`"),
     (FLOAT + "filter nan <= new <= 1", "2:32: expected `true`, `false`, `new` or a number, found `nan`"),
     (FLOAT + "filter 1 <= new <= inf", "2:44: expected a number, found `inf`"),
+    # A number is too long.
+    ("frame a 99999999999999 bytes", "1:9: length 99999999999999 has too many digits, 10 at most"),
+    ("frame a 00000000002 bytes", "1:9: length 00000000002 has too many digits, 10 at most"),
+    (FRAME + "message m -12345678901 bits", "2:11: width -12345678901 has too many digits, 10 at most"),
+    (FRAME + f"message m {LONG_NUMBER} bits", f"2:11: width {LONG_NUMBER[:40]}.. has too many digits, 10 at most"),
+    (MESSAGE + "  in a at 12345678901", "3:11: start 12345678901 has too many digits, 10 at most"),
+    (MESSAGE + "  in a at 3 status 0x123456789", "3:20: status bit place 0x123456789 has too many digits, 8 at most"),
+    (FRAME + "message m 10 bits initial 12345678901", "2:27: initial 12345678901 has too many digits, 10 at most"),
+    (FRAME + "message m 9 bits filter 0 <= new <= 0x000000001", "2:37: x2 0x000000001 has too many digits, 8 at most"),
+    (FLOAT + "initial 0x123456789", "2:33: initial 0x123456789 has too many digits, 8 at most"),
+    (FLOAT + f"initial 1.{LONG_NUMBER}", f"2:33: initial 1.{LONG_NUMBER[:38]}.. has too many digits, 1000 at most"),
+    (FLOAT + "initial 1e123456789", "2:33: the exponent of initial 1e123456789 has too many digits, 8 at most"),
+    # A word is long, or cannot be printed.
+    (LONG_NAME, f"1:1: expected `frame`, `message` or `in`, found `{CUT}`"),
+    (LONG_NAME[:40], f"1:1: expected `frame`, `message` or `in`, found `{LONG_NAME[:40]}`"),
+    ("frame \u202e 2 bytes", "1:7: expected a name, found `\\u202e`"),
+    (f"frame {LONG_NAME} 33 bytes", "1:1008: length 33 is not 1 to 32"),
+    (FRAME + f"message {LONG_NAME} 1 bit", f"2:9: {CUT} has no field"),
+    (FRAME + f"message {LONG_NAME} 1 bit\nin a at 0 status 0", f"3:18: bit 0 of a is taken by {CUT} itself"),
+    (MESSAGE + f"in {LONG_NAME} at 3", f"3:4: there is no frame {CUT}"),
+    (f"frame {LONG_NAME} 1 byte\n" * 2, f"2:7: the name {CUT} is taken in line 1"),
+    # What no text has.
+    ("frame a\x1b[31m 2 bytes", "1:8: \\x1b is a control character"),
+    (FRAME + "\n# \x07\x08", "3:3: \\x07 is a control character"),
+    (FRAME + "# \x85", "2:3: \\x85 is a control character"),
+    (FRAME + "# caf\udce9", "2:6: byte 0xE9 is not UTF-8"),
     # ORDER
-    (FIELD + "  in a at 3", "4:6: the message has a field in this frame already"),
+    (FIELD + "  in a at 3", "4:6: the message has a field in this frame already, line 3"),
     # RANGE
     ("frame a 33 bytes", "1:9: length 33 is not 1 to 32"),
     ("frame a 0 bytes", "1:9: length 0 is not 1 to 32"),
@@ -101,7 +129,10 @@ MISTAKES = [
     (FLOAT + "filter new & 0xFF800000 changed", f"2:25: filter 7 (new & X1 changed) {NO_MASK}"),
     (FRAME + "message m 4 bits sent vote", "2:23: agreement 2 (vote) is not 0 (pick any), as the message is sent"),
     ("\n".join(f"frame f{n} 1 byte" for n in range(33)), f"33:7: {TOO_MANY} frames"),
-    ("\n".join(f"message m{n} 1 bit" for n in range(33)), f"33:9: {TOO_MANY} messages"),
+    (
+        ONE_BYTE + "\n".join(f"message m{n} 1 bit\nin f{n // 8} at {n % 8}" for n in range(33)),
+        f"70:9: {TOO_MANY} messages",
+    ),
     # WIDTH
     (FRAME + "message m 10 bits initial 1024", f"2:27: initial 1024 is not {TEN_BITS}"),
     (FRAME + "message m 10 bits initial -1", f"2:27: initial -1 is not {TEN_BITS}"),
@@ -140,10 +171,91 @@ MISTAKES = [
     (MESSAGE + "  in a at 7", "3:11: bit 16 is not in a, which has bits 0 to 15"),
     (MESSAGE + "  in a at 3 status 16", "3:20: bit 16 is not in a, which has bits 0 to 15"),
     (MESSAGE + "  in a at 3 status 1000", "3:20: bit 1000 is not in a, which has bits 0 to 15"),
-    (MESSAGE + "  in a at 3 status 12", "3:20: bit 12 of a is taken by m"),
-    (FIELD + "message n 4 bits\n  in a at 0", "5:11: bit 3 of a is taken by m"),
+    (MESSAGE + "  in a at 3 status 12", "3:20: bit 12 of a is taken by m itself"),
+    (FIELD + "message n 4 bits\n  in a at 0", "5:11: bit 3 of a is taken by m, line 3"),
+    (FIELD + "message n 4 bits\n  in a at 13 status 3", "5:11: bit 16 is not in a, which has bits 0 to 15"),
+    (FIELD + "message n 1 bit\n\n  in a at 15 status 12", "6:21: bit 12 of a is taken by m, line 3"),
     # NOFIELD
     (MESSAGE, "2:9: m has no field"),
+]
+
+# A text with several mistakes, and all that is told: a line that is wrong only because of another is not.
+SEVERAL = [
+    (
+        "fram a 2 bytes\nframe b 33 bytes\nframe c 2 bytes middle\nframe d 2 bytes d\n",
+        [
+            "1:1: expected `frame`, `message` or `in`, found `fram`",
+            "2:9: length 33 is not 1 to 32",
+            "3:17: expected `little`, `big`, `received`, `sent`, `time` or `event`, found `middle`",
+            "4:17: expected `little`, `big`, `received`, `sent`, `time` or `event`, found `d`",
+        ],
+    ),
+    # The frame, named or not, is wrong; another is not there.
+    (
+        "frame a 33 bytes\nfram b 2 bytes\nframe c two bytes\nmessage m 10 bits\n"
+        "  in a at 0\n  in b at 300\n  in c at 0 status 1\n  in d at 0\n",
+        [
+            "1:9: length 33 is not 1 to 32",
+            "2:1: expected `frame`, `message` or `in`, found `fram`",
+            "3:9: expected a whole number, found `two`",
+            "8:6: there is no frame d",
+        ],
+    ),
+    (FRAME + "frame 2b 2 bytes\nmessage m 1 bit\n  in b2 at 0\n", ["2:7: expected a name, found `2b`"]),
+    # A number that is too long is told whatever the message and the frame are.
+    (
+        FRAME + "message m 33 bits\n  in a at 12345678901\n",
+        ["2:11: width 33 is not 1 to 32", "3:11: start 12345678901 has too many digits, 10 at most"],
+    ),
+    # Of two frames with one name, either may be meant.
+    (FRAME + "frame a 4 bytes\nmessage m 10 bits\n  in a at 20\n", ["2:7: the name a is taken in line 1"]),
+    # A wrong message: its fields are not those of the message above.
+    (
+        FIELD + "message n 33 bits\n  in a at 3\n"
+        "mesage o 3 bits\n  in a at 3\n  in b at 3\nmessage m 2 bits\n  in a at 3\n",
+        [
+            "4:11: width 33 is not 1 to 32",
+            "6:1: expected `frame`, `message` or `in`, found `mesage`",
+            "8:6: there is no frame b",
+            "9:9: the name m is taken in line 2",
+        ],
+    ),
+    ("message 3\n  in a at 3\n", ["1:9: expected a name, found `3`", "2:6: there is no frame a"]),
+    # A message whose fields are wrong, or that may have been meant by a wrong line, is not one without fields.
+    (
+        MESSAGE + "  in a on 3\nmessage n 3 bits\n  on a at 3\nmessage o 3 bits\nmessage p 3 bits\n  in a at 99\n",
+        [
+            "3:8: expected `at`, found `on`",
+            "5:3: expected `frame`, `message` or `in`, found `on`",
+            "6:9: o has no field",
+            "8:11: bit 99 is not in a, which has bits 0 to 15",
+        ],
+    ),
+    # A frame that may have been a field, and one that may have been a message.
+    (
+        MESSAGE + "frame a at 3\nframe n 3 bits\n  in a at 30\n",
+        ["3:9: expected a whole number, found `at`", "4:11: expected `bytes` or `byte`, found `bits`"],
+    ),
+    # A comment means nothing.
+    (
+        MESSAGE + "# \x07\n  in a at 9\n",
+        ["3:3: \\x07 is a control character", "4:11: bit 16 is not in a, which has bits 0 to 15"],
+    ),
+    # A field that is wrong takes no bits.
+    (
+        FIELD + "message n 4 bits\n  in a at 10\nmessage o 1 bit\n  in a at 13\nmessage p 1 bit\n  in a at 12\n",
+        ["5:11: bit 10 of a is taken by m, line 3", "9:11: bit 12 of a is taken by m, line 3"],
+    ),
+    # Lines are told in order, whatever was tested first.
+    (
+        "in a at 3\nmessage m 10 bits initial 1024\n  in a at 3\nmessage n 1 bit\n  in a at 8\nframe a 0x100 bytes",
+        [
+            "1:1: expected a message before its fields",
+            f"2:27: initial 1024 is not {TEN_BITS}",
+            "6:9: length 256 is not 1 to 32",
+        ],
+    ),
+    ("\n".join(f"frame f{n} 1 byte" for n in range(34)), [f"33:7: {TOO_MANY} frames", f"34:7: {TOO_MANY} frames"]),
 ]
 
 
@@ -213,13 +325,20 @@ class Texts(unittest.TestCase):
         fields = ["03 00 00 00 01 20", "03 00 01 00 01 20", "03 00 02 00 01 20", "03 01 03"]
         self.assertEqual(file(*records, *fields), (SAMPLES / "strain.layout").read_bytes())
 
+    def mistakes(self, text: str) -> list[str]:
+        with self.assertRaises(Mistakes) as caught:
+            parse(text)
+        return [f"{mistake.line}:{mistake.column}: {mistake}" for mistake in caught.exception.found]
+
     def test_mistakes(self) -> None:
         for text, told in MISTAKES:
             with self.subTest(told=told):
-                with self.assertRaises(Mistake) as caught:
-                    parse(text)
-                mistake = caught.exception
-                self.assertEqual(told, f"{mistake.line}:{mistake.column}: {mistake}")
+                self.assertEqual([told], self.mistakes(text))
+
+    def test_several_mistakes(self) -> None:
+        for text, told in SEVERAL:
+            with self.subTest(told=told):
+                self.assertEqual(told, self.mistakes(text))
 
 
 if __name__ == "__main__":

@@ -32,6 +32,7 @@ FIELDS = [f"03 {number // 4:02X} {number % 4:02X} {number // 4:02X}" for number 
 EIGHT_FIELDS = [*FRAMES, MESSAGES[0], *(f"03 00 {number:02X}" for number in range(8))]
 LARGEST = [*FRAMES, *MESSAGES, *FIELDS]
 
+TAKEN = "of frame0 is taken by message0"
 NOT_ABOVE = "the pair of message and frame is not above that of the field before"
 
 # The number of a refusal that gives no byte, what is wrong, and the records, of which the last is refused.
@@ -42,7 +43,7 @@ REFUSED = [
     (ORDER, "the kind is below the kind before", [FRAME, MESSAGE, FIELD, "02 01 0A"]),
     (ORDER, "number 1 is not the next, 0", ["01 01 02"]),
     (ORDER, "number 0 is not the next, 1", [FRAME, MESSAGE, MESSAGE]),
-    (ORDER, "the message has a field in this frame already", [FRAME, MESSAGE, FIELD, "03 00 00 0D"]),
+    (ORDER, "the message has a field in this frame already, record 2", [FRAME, MESSAGE, FIELD, "03 00 00 0D"]),
     (ORDER, NOT_ABOVE, [*FRAMES[:2], *MESSAGES[:2], "03 01 00", "03 00 01"]),
     (ORDER, NOT_ABOVE, [*FRAMES[:2], *MESSAGES[:2], "03 00 01", "03 00 00"]),
     (REF, "there is no message 1", [FRAME, MESSAGE, "03 01 00"]),
@@ -65,9 +66,9 @@ REFUSED = [
     (PLACE, "bit 16 is not in frame0, which has bits 0 to 15", [FRAME, MESSAGE, "03 00 00 07"]),
     (PLACE, "bit 16 is not in frame0, which has bits 0 to 15", [FRAME, MESSAGE, "03 00 00 03 01 10"]),
     (PLACE, "bit 256 is not in frame0, which has bits 0 to 255", [FRAMES[0], "02 00 20", "03 00 00 E1"]),
-    (PLACE, "bit 12 of frame0 is taken by message0", [FRAME, MESSAGE, "02 01 02", FIELD, "03 01 00 0C"]),
-    (PLACE, "bit 0 of frame0 is taken by message0", [FRAME, MESSAGE, "02 01 02", "03 00 00 03 01 00", "03 01 00 00"]),
-    (PLACE, "bit 3 of frame0 is taken by message0", [FRAME, MESSAGE, "03 00 00 03 01 03"]),
+    (PLACE, f"bit 12 {TAKEN}, record 3", [FRAME, MESSAGE, "02 01 02", FIELD, "03 01 00 0C"]),
+    (PLACE, f"bit 0 {TAKEN}, record 3", [FRAME, MESSAGE, "02 01 02", "03 00 00 03 01 00", "03 01 00 00"]),
+    (PLACE, f"bit 3 {TAKEN} itself", [FRAME, MESSAGE, "03 00 00 03 01 03"]),
     # The first failing test decides.
     (ORDER, "number 2 is not the next, 1", [FRAME, "01 02 21 02"]),
     (ORDER, "number 33 is not the next, 32", [*FRAMES, "01 21 02"]),
@@ -402,10 +403,18 @@ class Verdict(unittest.TestCase):
                     self.assertEqual(expected if used else (UNUSED, byte), verdict(record))
 
     def test_size_comes_first(self) -> None:
-        for raw in (b"\1", bytes(23), bytes(25), bytes(4608 + 24)):
-            with self.subTest(length=len(raw)):
-                refused = self.refusal(raw)
+        longest = "a layout file has at most 4608 bytes"
+        for length, words in (
+            (1, "1 byte is not a multiple of 24"),
+            (23, "23 bytes are not a multiple of 24"),
+            (25, "25 bytes are not a multiple of 24"),
+            (4609, longest),
+            (4632, longest),
+        ):
+            with self.subTest(length=length):
+                refused = self.refusal(bytes(length))
                 self.assertEqual((SIZE, 0, None), (refused.number, refused.record, refused.byte))
+                self.assertEqual(words, refused.words)
 
     def test_no_field_comes_last(self) -> None:
         refused = self.refusal(file(FRAME, *MESSAGES[:3], "03 01 00"))

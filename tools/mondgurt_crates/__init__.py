@@ -1,0 +1,1 @@
+"""The crates, who names whom, and where each stands in their picture."""

@@ -62,9 +62,9 @@ extern "C" {
 #endif
 
 /* One more with each landing; docs/CHANGES.md says what each brought. */
-#define MONDGURT_VERSION 8
+#define MONDGURT_VERSION 9
 
-#define MONDGURT_NODE 2979 /* the bytes of a node */
+#define MONDGURT_NODE 2851 /* the bytes of a node */
 #define MONDGURT_FILE 4608 /* the bytes of the longest layout file */
 
 /* Equal nodes have equal bytes, so memcmp compares two. An assignment copies one. */
@@ -90,8 +90,9 @@ typedef struct {
 uint32_t mondgurt_load(mondgurt_node *node, const uint8_t *file, size_t length);
 
 /*
- * Puts a value to the message's filter. If it passes it is held and the message is valid; if not, the held value stays and the message is invalid.
- * Either way all its fields become waiting. Answers OK in both cases, ID, ACCESS or VALUE.
+ * Puts a value to the message's filter, whose old value is the one that the message holds. If it passes it is held and the message is valid; if not,
+ * the held value stays, so that the next value is compared with it too, and the message is invalid. Either way all its fields become waiting. Answers
+ * OK in both cases, ID, ACCESS or VALUE.
  */
 uint8_t mondgurt_send(mondgurt_node *node, uint64_t message, int64_t value);
 
@@ -122,8 +123,8 @@ uint8_t mondgurt_deliver(mondgurt_node *node, uint64_t frame, uint8_t valid, con
 
 /*
  * Ends the round: for each received message the counting instances (frame validly delivered, and status bit, if it has one, 1) are agreed on and the
- * result is put to its filter; then the deliveries are forgotten. Of floats, only the finite ones are agreed on, and filters 8 to 13 compare numbers.
- * Answers OK. What it takes for granted of the processor's floats stands below.
+ * result is put to its filter, with the held value as old; what passes is held. Then the deliveries are forgotten. Of floats, only the finite ones are
+ * agreed on, and filters 8 to 13 compare numbers. Answers OK. What it takes for granted of the processor's floats stands below.
  */
 uint8_t mondgurt_close(mondgurt_node *node);
 

@@ -46,8 +46,8 @@
  * - ttSendMessage always marks the message as valid (6.3.3), and one whose value is filtered out is marked as invalidated (3.10.1). Here the filter
  *   decides: if it does not pass the value, ttSendMessage answers TT_E_FTCOM_OK, makes the message invalid, keeps the value that was held, and resets
  *   the flag as always.
- * - A filter's old value is the last value of the message (3.10.1). Here it is the value last put to the filter, passed or not; at start the initial
- *   value.
+ * - A filter's old value is the last value of the message, which for a received one is the last that passed (3.10.1); for a sent one, of which a value was
+ *   filtered out, it is left open. Here it is the value that the message holds, sent or received: the last that passed, and at start the initial value.
  * - Filters and agreements are optional, and the user may define more (3.9, 3.10.1). Here each message has one of the fourteen filters, and each
  *   received one pick any, average or vote; there are no others. Pick any takes the valid instance with the lowest frame number, and an average of whole
  *   numbers drops the fraction, toward zero.

@@ -14,6 +14,8 @@ FAST_CALLS(gcc)
 FAST_CALLS(clang)
 typedef fast_node gcc_node, clang_node;
 
+enum { VALUE = 677 }; /* which is sent */
+
 static uint8_t data[2], file[24 * (8 + 1 + 8)];
 static size_t length;
 static unsigned frames;
@@ -44,7 +46,7 @@ static unsigned play_nothing(void)
             answers += side##_deliver(&side##_start, f, 1, data, sizeof data);                                                     \
         return answers;                                                                                                            \
     }                                                                                                                              \
-    PLAY(side, send, side##_send(&side##_start, 0, 677))                                                                           \
+    PLAY(side, send, side##_send(&side##_start, 0, VALUE))                                                                         \
     PLAY(side, assemble, side##_assemble(&side##_start, 0, data, sizeof data))                                                     \
     PLAY(side, consumed, side##_consumed(&side##_start, 0))                                                                        \
     PLAY(side, round, (side##_play_deliver(), side##_close(&side##_start)))                                                        \
@@ -90,6 +92,10 @@ static void write_layout(enum call call, unsigned option)
     g[2] = 10;
     g[4] = !received;
     g[6] = call == SEND ? (uint8_t)option : 0;
+    if (g[6] == 4) { /* what is held from the start is all that passes */
+        g[16] = VALUE & 255;
+        g[17] = VALUE >> 8;
+    }
     if (g[6] == 8) { /* from x1, 0, to x2, 1,023 */
         g[12] = 255;
         g[13] = 3;

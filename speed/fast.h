@@ -16,7 +16,7 @@ typedef struct {
     uint8_t first, fields; /* its fields are next to each other */
     uint32_t x1, x2;
     int64_t low, high; /* its least and greatest value */
-    int64_t held, old;
+    int64_t held;
 } fast_message;
 
 enum fast_stage { FAST_WAITING, FAST_LOADED, FAST_GONE };

@@ -4,7 +4,21 @@ from __future__ import annotations
 
 from typing import Optional
 
-from .records import AGREEMENTS, DIRECTIONS, ORDERS, SIGNS, TRIGGERS, Bit, Field, Frame, Layout, Message, byte_and_bit
+from .records import (
+    AGREEMENTS,
+    COMPARE_WITH_OLD,
+    DIRECTIONS,
+    OLD,
+    ORDERS,
+    SIGNS,
+    TRIGGERS,
+    Bit,
+    Field,
+    Frame,
+    Layout,
+    Message,
+    byte_and_bit,
+)
 from .text import filter_words, value_words
 from .words import aligned, counted, shown
 
@@ -71,4 +85,9 @@ def picture(layout: Layout, frame: Frame) -> str:
     return "".join(line + "\n" for line in lines)
 
 
-KEY = "A3 is bit 3 of message A, A* its status bit, and a dot is a free bit.\n"
+def key(layout: Layout, frames: list[Frame]) -> str:
+    """What stands in the pictures of some frames, and what old is if a filter there compares with it."""
+    filters = {layout.messages[field.message].filter for frame in frames for field in layout.fields_in(frame)}
+    old = [OLD] if filters.intersection(COMPARE_WITH_OLD) else []
+    lines = ["A3 is bit 3 of message A, A* its status bit, and a dot is a free bit.", *old]
+    return "".join(line + "\n" for line in lines)

@@ -33,6 +33,8 @@ FILTERS = (
     "new < old",
     "new >= old",
 )
+COMPARE_WITH_OLD = (4, 5, 6, 7, 10, 11, 12, 13)
+OLD = "In a filter, old is the value that the message holds, at first its initial value; changed and unchanged compare with it too."
 
 # The parts of a message that hold values of it.
 VALUES = ("x1", "x2", "initial")

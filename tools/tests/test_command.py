@@ -126,6 +126,12 @@ class Command(Program):
         self.assertEqual((0, "", ""), self.run_layout("draw", SAMPLES / "brake.txt", "--svg", "brake.svg"))
         self.assertIn("<svg", (self.folder / "brake.svg").read_text())
 
+    def test_old_is_the_held_value(self) -> None:
+        brake = ["draw", SAMPLES / "brake.txt", "--frame"]
+        for arguments, told in ((["--help"], 1), ([*brake, "service"], 1), ([*brake, "pedal_a"], 0)):
+            _, printed, _ = self.run_layout(*arguments)
+            self.assertEqual(told, " ".join(printed.split()).count("old is the value that the message holds"))
+
     def test_no_such_frame(self) -> None:
         source = shutil.copy(SAMPLES / "brake.txt", self.folder / "brake.txt")
         for frame, shown in (

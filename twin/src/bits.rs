@@ -31,6 +31,10 @@ pub fn value(message: &Message, pattern: u32) -> i64 {
     }
 }
 
+pub fn initial(message: &Message) -> i64 {
+    value(message, message.initial)
+}
+
 /// The extended 32-bit pattern of a value of a message.
 pub fn pattern(value: i64) -> u32 {
     value as u32

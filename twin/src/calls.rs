@@ -2,7 +2,7 @@
 
 use std::fmt;
 
-use crate::node::Node;
+use crate::node::{Node, OK};
 
 #[derive(Clone, Debug, PartialEq)]
 pub enum Call {
@@ -95,6 +95,18 @@ impl Call {
             Call::Assemble { buffer, .. } => buffer.clone(),
             Call::ReadFlag { place, .. } => vec![*place],
             Call::Receive { place, .. } => place.to_le_bytes().to_vec(),
+            _ => Vec::new(),
+        }
+    }
+
+    /// The values that the call puts to filters, with their messages; the node is as it was before.
+    pub fn puts(&self, node: &Node, answer: u8) -> Vec<(usize, i64)> {
+        match *self {
+            Call::Send { message, value } if answer == OK => vec![(message as usize, value)],
+            Call::Close => {
+                let agreed = |number| Some((number, node.agreed(number).ok()?));
+                (0..node.states.len()).filter_map(agreed).collect()
+            }
             _ => Vec::new(),
         }
     }

@@ -35,14 +35,12 @@ pub fn check(case: &Case, replies: &[Reply], counts: &mut Counts) -> Result<(), 
     }
     match (verdict, &of_node[..]) {
         (Verdict::Accepted(layout), [first, second]) => {
-            counts.layout();
             let first = check_calls(case, &layout, 0, first, counts)?;
             // The calls of the second order are the same, and are not counted again.
             let second = check_calls(case, &layout, 1, second, &mut Counts::default())?;
             check_orders(case, &first, &second)
         }
         (Verdict::Accepted(layout), [only]) if case.has_one_order() => {
-            counts.layout();
             check_calls(case, &layout, 0, only, counts).map(|_| ())
         }
         _ if !case.damage.is_empty() => check_damaged(case, replies, counts),
@@ -83,6 +81,7 @@ fn check_calls<'a>(
     counts: &mut Counts,
 ) -> Result<Played<'a>, Difference> {
     let mut twin = Node::start(layout);
+    counts.layout(layout);
     let mut outcomes = vec![Outcome::default(); case.calls.len()];
     let mut dumps = Vec::new();
     // The first two replies are to the filling and the loading.

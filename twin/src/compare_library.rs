@@ -15,9 +15,11 @@ const SEED: u64 = 1;
 
 /// With at least the default number of calls and files, all that can occur has to occur so often;
 /// each refusal at each byte that it can give, each size of a vote, and what is rare of floats, so
-/// often.
+/// often; and verdicts that tell the held value from another and are shown, received and sent, so often.
+/// Without `send_and_assemble` of scripts.rs, or without its assembly, too few of those sent are.
 const LEAST: u64 = 100;
 const LEAST_RARE: u64 = 20;
+const LEAST_OLD: [u64; 2] = [25, 45];
 
 /// So many cases are played at once.
 const FILES_AT_ONCE: u64 = 400;
@@ -98,6 +100,13 @@ fn conclude(task: &Task, counts: &Counts) -> ExitCode {
     if all_calls && counts.floats.least_rare() < LEAST_RARE {
         println!("something of floats occurred fewer than {LEAST_RARE} times");
         return ExitCode::from(1);
+    }
+    for (direction, least) in LEAST_OLD.into_iter().enumerate() {
+        if all_calls && counts.least_old(direction) < least {
+            let name = ["received", "sent"][direction];
+            println!("{name}: a filter told the held value from another fewer than {least} times");
+            return ExitCode::from(1);
+        }
     }
     println!("no difference");
     ExitCode::SUCCESS

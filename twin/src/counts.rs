@@ -1,15 +1,16 @@
 //! How often each thing was compared, so that a generator that misses something is noticed.
 
-use std::fmt;
+use std::{fmt, mem};
 
 use crate::bits;
 use crate::calls::{Call, NAMES};
-use crate::filter::passes;
 use crate::float_counts::FloatCounts;
 use crate::layout::{
-    faults, Fault, Sign, Verdict, FIELD, FRAME, MESSAGE, RECORD, REFUSALS, UNUSED, WIDTH,
+    faults, Fault, Layout, Message, Sign, Verdict, FIELD, FRAME, MESSAGE, RECORD, REFUSALS, UNUSED,
+    WIDTH,
 };
 use crate::node::{Node, ACCESS, ID, OK};
+use crate::old_counts::{Past, Put};
 use crate::whole_counts::WholeCounts;
 use crate::wrong::{Place, Row, FLOAT, PLACES};
 
@@ -47,6 +48,8 @@ pub struct Counts {
     statuses: [[[u64; 2]; 2]; 2],
     pub whole: WholeCounts,
     pub floats: FloatCounts,
+    /// Of each message of the node that is played.
+    pasts: Vec<Past>,
 }
 
 impl Counts {
@@ -79,8 +82,10 @@ impl Counts {
         self.unused_and_not_finite += u64::from(both && kind == FLOAT);
     }
 
-    pub fn layout(&mut self) {
+    /// The calls that follow are on a node of this layout, from its start on.
+    pub fn layout(&mut self, layout: &Layout) {
         self.layouts += 1;
+        self.pasts = layout.messages.iter().map(Past::start).collect();
     }
 
     /// A call on a node as it was before, and its answer.
@@ -93,9 +98,12 @@ impl Counts {
                 self.floats.send(value);
             }
         }
+        self.look(node, call, answer);
+        for (message, value) in call.puts(node, answer) {
+            self.filter(node, message, value);
+        }
         match call {
             _ if answer != OK => (),
-            Call::Send { message, value } => self.filter(node, *message as usize, *value),
             Call::Assemble { frame, .. } => {
                 self.fields_of(node, *frame as usize);
                 self.statuses_of(node, *frame as usize);
@@ -103,11 +111,7 @@ impl Counts {
             Call::Deliver { frame, .. } => self.fields_of(node, *frame as usize),
             Call::Close => {
                 for number in 0..node.states.len() {
-                    let agreed = node.agreed(number);
-                    self.closing(node, number, agreed.is_ok());
-                    if let Ok(value) = agreed {
-                        self.filter(node, number, value);
-                    }
+                    self.closing(node, number);
                 }
                 let frames = node.layout.frames.iter().enumerate();
                 for (number, _) in frames.filter(|(_, frame)| !frame.sent) {
@@ -146,23 +150,65 @@ impl Counts {
         all.chain(self.whole.all()).chain(self.floats.all())
     }
 
-    fn closing(&mut self, node: &Node, number: usize, agrees: bool) {
+    fn closing(&mut self, node: &Node, number: usize) {
         let message = &node.layout.messages[number];
         let counting = node.counting(number).unwrap_or_default();
+        let agrees = || node.agreed(number).is_ok();
         match (message.sign, counting.is_empty()) {
             (_, true) => (),
-            (Sign::Float, _) => self.floats.closing(message, &counting, agrees),
+            (Sign::Float, _) => self.floats.closing(message, &counting, agrees()),
             _ => self.whole.closing(message, &counting),
         }
     }
 
-    fn filter(&mut self, node: &Node, number: usize, value: i64) {
-        let message = &node.layout.messages[number];
-        let old = node.states[number].old;
-        let passed = passes(message, value, old);
+    fn filter(&mut self, node: &Node, number: usize, new: i64) {
+        let put = Put {
+            message: &node.layout.messages[number],
+            new,
+            held: node.states[number].held,
+            last: self.pasts[number].last,
+        };
+        self.pasts[number] = Past::of(&put);
+        match put.message.sign {
+            Sign::Float => self.floats.filter(&put),
+            _ => self.whole.filter(&put),
+        }
+    }
+
+    /// Does the call show the last verdict of a message's filter, or hide it?
+    fn look(&mut self, node: &Node, call: &Call, answer: u8) {
+        match *call {
+            Call::Receive { message, .. } if answer != ID && answer != ACCESS => {
+                self.show(&node.layout.messages[message as usize], message as usize);
+            }
+            // Each received message has a status anew, even if nothing is put to its filter.
+            Call::Close => {
+                for (message, past) in node.layout.messages.iter().zip(&mut self.pasts) {
+                    past.tells = past.tells.map(|tells| tells && message.sent);
+                }
+            }
+            _ if answer != OK => (),
+            Call::Assemble { frame, .. } => {
+                for field in node.layout.fields_of_frame(frame as usize) {
+                    if self.pasts[field.message].is_other || field.status.is_some() {
+                        self.show(&node.layout.messages[field.message], field.message);
+                    }
+                }
+            }
+            // Invalid whatever the verdict was.
+            Call::Invalidate { message } => {
+                let past = &mut self.pasts[message as usize];
+                past.tells = past.tells.map(|tells| tells && past.is_other);
+            }
+            _ => (),
+        }
+    }
+
+    fn show(&mut self, message: &Message, number: usize) {
+        let tells = mem::take(&mut self.pasts[number].tells);
         match message.sign {
-            Sign::Float => self.floats.filter(message, value, old, passed),
-            _ => self.whole.filter(message, passed),
+            Sign::Float => self.floats.old.shown(message, tells),
+            _ => self.whole.old.shown(message, tells),
         }
     }
 
@@ -217,6 +263,13 @@ impl Counts {
         ];
         let calls = answers.chain(fields).chain(numbers);
         (files.min().unwrap_or(0), calls.min().unwrap_or(0))
+    }
+
+    /// The least count of verdicts of a direction, received or sent, that told the held value from
+    /// another and were shown.
+    pub fn least_old(&self, direction: usize) -> u64 {
+        let whole = self.whole.old.least(direction, false);
+        whole.min(self.floats.old.least(direction, true))
     }
 
     /// The least count of files refused at one byte, where that can be.

@@ -6,8 +6,9 @@ use crate::bits;
 use crate::float;
 use crate::layout::{Message, Sign};
 
-/// Does the new value pass? Masks work on the extended patterns, order on values. Of floats, 4 and 5
-/// compare patterns, and 8 to 13 the numbers that these stand for.
+/// Does the new value pass? The old one is the value that the message holds. Masks work on the
+/// extended patterns, order on values. Of floats, 4 and 5 compare patterns, and 8 to 13 the numbers
+/// that these stand for.
 pub fn passes(message: &Message, new: i64, old: i64) -> bool {
     let (x1, x2) = (message.x1, message.x2);
     let masked = |value| bits::pattern(value) & x1;

@@ -6,6 +6,7 @@ use crate::bits;
 use crate::float::{is_finite, quotient, sum, Lies, EXPONENT, FRACTION, SIGN};
 use crate::layout::Message;
 use crate::node::left;
+use crate::old_counts::{OldCounts, Put};
 use crate::patterns::MINUS_ZERO;
 
 /// The filters that a float may have.
@@ -75,6 +76,7 @@ pub struct FloatCounts {
     filters: [[u64; 2]; 14],
     /// By filter: a zero against the other zero.
     zeros: [u64; 14],
+    pub old: OldCounts,
     /// Fields packed or delivered, by order.
     fields: [u64; 2],
 }
@@ -164,14 +166,14 @@ impl FloatCounts {
         self.sends[kind] += 1;
     }
 
-    pub fn filter(&mut self, message: &Message, new: i64, old: i64, passed: bool) {
-        let filter = usize::from(message.filter);
-        self.filters[filter][usize::from(passed)] += 1;
+    pub fn filter(&mut self, put: &Put) {
+        let filter = usize::from(put.message.filter);
+        self.filters[filter][usize::from(put.passes())] += 1;
         let others = match filter {
-            8 | 9 => [message.x1, message.x2],
-            _ => [bits::pattern(old); 2],
+            8 | 9 => [put.message.x1, put.message.x2],
+            _ => [bits::pattern(put.held); 2],
         };
-        let new = bits::pattern(new);
+        let new = bits::pattern(put.new);
         let other_zero = new & !SIGN == 0 && others.contains(&(new ^ SIGN));
         self.zeros[filter] += u64::from(other_zero);
     }
@@ -190,7 +192,8 @@ impl FloatCounts {
         let filters = self.filters.iter_mut().flatten();
         let all = left.chain(&mut self.some_aside).chain(&mut self.cases);
         let all = all.chain(&mut self.sends).chain(filters);
-        all.chain(&mut self.zeros).chain(&mut self.fields)
+        let all = all.chain(&mut self.zeros).chain(&mut self.fields);
+        all.chain(self.old.all())
     }
 
     /// The least count of each status and its reason, and of each filter passing and not.
@@ -259,9 +262,13 @@ impl fmt::Display for FloatCounts {
             self.least_filter(),
             self.least_zeros()
         )?;
+        writeln!(f, "  {}", self.old.said(0, true))?;
         match self.sends.iter().sum() {
             0 => Ok(()),
-            _ => writeln!(f, "floats sent: {}", named(&SENDS, &self.sends).join(", ")),
+            _ => {
+                writeln!(f, "floats sent: {}", named(&SENDS, &self.sends).join(", "))?;
+                writeln!(f, "  {}", self.old.said(1, true))
+            }
         }
     }
 }

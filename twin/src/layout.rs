@@ -317,6 +317,10 @@ pub fn is_mask(filter: u8) -> bool {
     [2, 3, 6, 7].contains(&filter)
 }
 
+pub fn uses_old(filter: u8) -> bool {
+    matches!(filter, 4..=7 | 10..=13)
+}
+
 pub fn uses_x1(filter: u8) -> bool {
     [2, 3, 6, 7, 8, 9].contains(&filter)
 }

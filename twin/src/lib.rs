@@ -14,6 +14,7 @@ pub mod float;
 pub mod float_counts;
 pub mod layout;
 pub mod node;
+pub mod old_counts;
 pub mod pairs;
 pub mod patterns;
 pub mod plans;

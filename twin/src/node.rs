@@ -25,9 +25,8 @@ pub enum Stage {
 
 #[derive(Clone, Debug, PartialEq)]
 pub struct State {
+    /// Which is the filter's old value.
     pub held: i64,
-    /// The value last put to the filter, passed or not.
-    pub old: i64,
     /// Only a sent message is valid or invalid.
     pub valid: bool,
     /// Of a received message, the status of the last closing.
@@ -48,8 +47,7 @@ pub struct Node<'a> {
 impl<'a> Node<'a> {
     pub fn start(layout: &'a Layout) -> Node<'a> {
         let state = |(number, message): (usize, &Message)| State {
-            held: bits::value(message, message.initial),
-            old: bits::value(message, message.initial),
+            held: bits::initial(message),
             valid: message.sent && !has_status_bit(layout, number),
             status: if message.sent { OK } else { NOT_RECEIVED },
         };
@@ -72,13 +70,12 @@ impl<'a> Node<'a> {
             return VALUE;
         }
         let state = &mut self.states[number];
-        if passes(message, value, state.old) {
+        if passes(message, value, state.held) {
             state.held = value;
             state.valid = true;
         } else {
             state.valid = false;
         }
-        state.old = value;
         for (field, stage) in self.layout.fields.iter().zip(&mut self.stages) {
             if field.message == number {
                 *stage = Stage::Waiting;
@@ -177,13 +174,12 @@ impl<'a> Node<'a> {
             match agreed {
                 Err(status) => state.status = status,
                 Ok(value) => {
-                    if passes(message, value, state.old) {
+                    if passes(message, value, state.held) {
                         state.status = OK;
                         state.held = value;
                     } else {
                         state.status = NOT_RECEIVED;
                     }
-                    state.old = value;
                 }
             }
         }

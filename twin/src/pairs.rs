@@ -1,5 +1,6 @@
-//! Cases that play all pairs of the 200 edge patterns: one case for each pattern, with all the
-//! others. A node shows a sum only through its mean, and a comparison only through a filter.
+//! Cases that play all pairs of the 200 edge patterns: one case for each pattern with all the others,
+//! of comparisons with the held value one with some of them. A node shows a sum only through its
+//! mean, and a comparison only through a filter.
 
 use crate::bits;
 use crate::calls::Call;
@@ -14,6 +15,12 @@ pub const PATTERNS: usize = 200;
 const MESSAGES: usize = 16;
 const FIELDS: usize = 8;
 
+/// Comparisons with the held value, by these filters and with so many new values in a case, and the
+/// cases of all pairs.
+const FILTERS: [u8; 6] = [4, 5, 10, 11, 12, 13];
+const NEW: usize = 5;
+pub const ORDERS: usize = PATTERNS * PATTERNS / NEW;
+
 /// The mean of the pattern alone, and for each other pattern those of both, and of both with one to
 /// six -0: adding -0 changes no sum, so each sum is divided by 2 to 8.
 pub fn means(place: usize) -> Case {
@@ -23,7 +30,7 @@ pub fn means(place: usize) -> Case {
     records.extend((0..MESSAGES).map(|number| message(number, 1, 0, [0; 3])));
     for number in 0..MESSAGES {
         let first = number / 8 * FIELDS;
-        records.extend((first..first + FIELDS).map(|frame| field(number, frame)));
+        records.extend((first..first + FIELDS).map(|frame| field(number, frame, number % 8)));
     }
     let edges = edges();
     let one = edges[place];
@@ -33,12 +40,12 @@ pub fn means(place: usize) -> Case {
             let alone = if turn == 0 { 1 } else { 2 };
             for count in alone..=FIELDS {
                 for frame in (0..frames).filter(|frame| frame % FIELDS < count) {
-                    let values = (0..MESSAGES).map(|message| match frame % FIELDS {
+                    let carried = |message| match frame % FIELDS {
                         0 => one,
                         1 => others[message % others.len()],
                         _ => MINUS_ZERO,
-                    });
-                    calls.push(deliver(layout, frame, values));
+                    };
+                    calls.push(deliver(layout, frame, carried));
                 }
                 calls.extend(close(MESSAGES));
             }
@@ -47,21 +54,29 @@ pub fn means(place: usize) -> Case {
     })
 }
 
-/// Filters 4, 5 and 10 to 13: the pattern against itself, and before and after each later one.
+/// Filters 4, 5 and 10 to 13: the pattern as the initial value, and so as the held one, with some as
+/// the new value. Each has messages of its own: once another is held, few filters let the pattern
+/// back. One that is not finite is refused. A node that compares with the initial value for ever has the
+/// same outcomes; only the random closings tell it.
 pub fn orders(place: usize) -> Case {
-    let filters = [4, 5, 10, 11, 12, 13];
-    let mut records = vec![frame(0, 24)];
-    let numbered = filters.iter().enumerate();
-    records.extend(numbered.map(|(number, &filter)| message(number, 0, filter, [0; 3])));
-    records.extend((0..filters.len()).map(|number| field(number, 0)));
     let edges = edges();
+    let held = edges[place * NEW / PATTERNS];
+    let new = &edges[place * NEW % PATTERNS..][..NEW];
+    let messages = NEW * FILTERS.len();
+    // A frame for each new value, with a message for each filter.
+    let own = |number| (number / FILTERS.len(), number % FILTERS.len());
+    let mut records: Vec<Vec<u8>> = (0..NEW).map(|number| frame(number, 24)).collect();
+    records.extend((0..messages).map(|number| {
+        let (_, place) = own(number);
+        message(number, 0, FILTERS[place], [0, 0, held])
+    }));
+    records.extend((0..messages).map(|number| {
+        let (frame, place) = own(number);
+        field(number, frame, place)
+    }));
     Case::in_one_order(records.concat(), |layout| {
-        let one = edges[place];
-        let mut new: Vec<u32> = edges[place..].iter().flat_map(|&it| [one, it]).collect();
-        new.push(one);
-        new.into_iter()
-            .flat_map(|float| round(layout, filters.len(), float))
-            .collect()
+        let carried = (0..NEW).map(|frame| deliver(layout, frame, |_| new[frame]));
+        carried.chain(close(messages)).collect()
     })
 }
 
@@ -75,27 +90,22 @@ pub fn limits(place: usize) -> Case {
     let mut records = vec![frame(0, 16)];
     let numbered = messages.iter().enumerate();
     records.extend(numbered.map(|(number, &(filter, words))| message(number, 0, filter, words)));
-    records.extend((0..messages.len()).map(|number| field(number, 0)));
+    records.extend((0..messages.len()).map(|number| field(number, 0, number)));
     Case::in_one_order(records.concat(), |layout| {
-        let new = edges.iter();
-        new.flat_map(|&float| round(layout, messages.len(), float))
-            .collect()
+        let round = |&float: &u32| {
+            let mut calls = vec![deliver(layout, 0, |_| float)];
+            calls.extend(close(messages.len()));
+            calls
+        };
+        edges.iter().flat_map(round).collect()
     })
 }
 
-/// All messages carry the float in frame 0.
-fn round(layout: &Layout, messages: usize, float: u32) -> Vec<Call> {
-    let mut calls = vec![deliver(layout, 0, (0..messages).map(|_| float))];
-    calls.extend(close(messages));
-    calls
-}
-
-/// The frame with a float for each message; those of other frames do not count.
-fn deliver(layout: &Layout, frame: usize, floats: impl Iterator<Item = u32>) -> Call {
-    let floats: Vec<u32> = floats.collect();
+/// The frame with the float that each message has in it.
+fn deliver(layout: &Layout, frame: usize, float: impl Fn(usize) -> u32) -> Call {
     let mut data = vec![0; layout.frames[frame].length];
     for field in layout.fields_of_frame(frame) {
-        bits::pack(layout, field, floats[field.message].into(), &mut data);
+        bits::pack(layout, field, float(field.message).into(), &mut data);
     }
     Call::Deliver {
         frame: frame as u64,
@@ -126,10 +136,9 @@ fn message(number: usize, agreement: u8, filter: u8, words: [u32; 3]) -> Vec<u8>
     record
 }
 
-/// The field of a message that is one of eight in its frame.
-fn field(message: usize, frame: usize) -> Vec<u8> {
-    let start = 32 * (message % 8);
-    record(&[FIELD, message as u8, frame as u8, start as u8])
+/// A field at one of the eight places that the longest frame has.
+fn field(message: usize, frame: usize, place: usize) -> Vec<u8> {
+    record(&[FIELD, message as u8, frame as u8, 32 * place as u8])
 }
 
 fn record(bytes: &[u8]) -> Vec<u8> {

@@ -4,7 +4,7 @@ use crate::agreement::sizes;
 use crate::bits;
 use crate::calls::Call;
 use crate::float::SIGN;
-use crate::layout::{Layout, Sign};
+use crate::layout::{uses_old, Layout, Sign};
 use crate::node::Node;
 use crate::patterns::{made_finite, not_finite, Theme};
 use crate::random::Random;
@@ -81,9 +81,18 @@ impl<'a> Writer<'a> {
         for message in 0..self.favourites.len() {
             // Often the same as before, so that new and old values are alike.
             if self.calls.is_empty() || self.random.once_in(2) {
-                self.themes[message] = Theme::any(self.random);
+                self.themes[message] = self.theme(message);
             }
             self.favourites[message] = [self.value(message), self.value(message)];
+        }
+    }
+
+    /// While a zero is held, often zeros, so that it meets the other one.
+    fn theme(&mut self, message: usize) -> Theme {
+        let held = bits::pattern(self.node.states[message].held);
+        match held & !SIGN == 0 && self.random.once_in(4) {
+            true => Theme::Zeros,
+            false => Theme::any(self.random),
         }
     }
 
@@ -95,14 +104,15 @@ impl<'a> Writer<'a> {
             Some(sent) if !self.random.once_in(8) => sent,
             _ => any,
         };
-        match (sent, self.random.between(0, 15)) {
+        match (sent, self.random.between(0, 19)) {
             (true, 0..=3) => self.send(),
             (true, 4..=6) => self.invalidate(),
             (true, 7..=10) => self.assemble(),
             (true, 11..=12) => self.consumed(),
             (true, 13..=14) => self.read_flag(),
-            (true, _) => self.send_through(),
-            (false, 0..=11) => self.deliver(),
+            (true, 15) => self.send_through(),
+            (true, _) => self.send_and_assemble(),
+            (false, 0..=15) => self.deliver(),
             (false, _) => self.receive(),
         }
     }
@@ -110,6 +120,22 @@ impl<'a> Writer<'a> {
     fn send(&mut self) {
         let message = self.message(true);
         self.send_to(message);
+    }
+
+    /// A message whose filter has an old value, if there is one; a frame of it shows the verdict.
+    fn send_and_assemble(&mut self) {
+        let messages = self.node.layout.messages.iter().enumerate();
+        let with_old = messages.filter(|(_, message)| message.sent && uses_old(message.filter));
+        let with_old: Vec<usize> = with_old.map(|(number, _)| number).collect();
+        let Some(message) = self.random.pick(&with_old) else {
+            return self.send();
+        };
+        let fields = self.node.layout.fields_of_message(message);
+        let frames: Vec<usize> = fields.map(|field| field.frame).collect();
+        self.send_to(message as u64);
+        if let Some(frame) = self.random.pick(&frames) {
+            self.assemble_to(frame as u64);
+        }
     }
 
     fn send_to(&mut self, message: u64) {
@@ -359,12 +385,19 @@ impl<'a> Writer<'a> {
 
     /// A finite float: of the round's theme, or at an edge of its filter.
     fn float(&mut self, message: usize) -> i64 {
-        let state = &self.node.states[message];
+        let held = bits::pattern(self.node.states[message].held);
         let by_theme = self.themes[message].pattern(self.random);
         let message = &self.node.layout.messages[message];
-        let (old, held) = (bits::pattern(state.old), bits::pattern(state.held));
         let patterns = [
-            by_theme, by_theme, by_theme, old, old, held, message.x1, message.x2,
+            by_theme,
+            by_theme,
+            by_theme,
+            held,
+            held,
+            held,
+            message.initial,
+            message.x1,
+            message.x2,
         ];
         let pattern = self.random.pick(&patterns).unwrap_or(by_theme);
         // The same, the other sign, or the float beside it.
@@ -378,7 +411,7 @@ impl<'a> Writer<'a> {
             return self.float(message);
         }
         let any = self.any_value(message);
-        let state = &self.node.states[message];
+        let held = self.node.states[message].held;
         let message = &self.node.layout.messages[message];
         let (least, most) = bits::range(message).into_inner();
         let (x1, x2) = (message.x1, message.x2);
@@ -387,8 +420,8 @@ impl<'a> Writer<'a> {
         // What filters that few values pass, or few do not, are about.
         let wanted = match message.filter {
             2 | 3 => masked(x2),
-            6 | 7 => masked(bits::pattern(state.old)),
-            _ => state.old,
+            6 | 7 => masked(bits::pattern(held)),
+            _ => held,
         };
         let values = [
             any,
@@ -396,8 +429,8 @@ impl<'a> Writer<'a> {
             least,
             most,
             0,
-            state.old,
-            state.held,
+            bits::initial(message),
+            held,
             bits::value(message, x1),
             bits::value(message, x2),
             wanted,

@@ -4,6 +4,7 @@ use std::fmt;
 
 use crate::agreement::{leading, sizes};
 use crate::layout::Message;
+use crate::old_counts::{OldCounts, Put};
 
 /// The most instances of a message.
 const MOST: usize = 8;
@@ -17,6 +18,7 @@ pub struct WholeCounts {
     votes: [[[u64; MOST + 1]; MOST + 1]; MOST + 1],
     /// By direction, received or sent, and filter: values that did not pass, and that did.
     filters: [[[u64; 2]; 14]; 2],
+    pub old: OldCounts,
 }
 
 impl WholeCounts {
@@ -29,16 +31,17 @@ impl WholeCounts {
         }
     }
 
-    pub fn filter(&mut self, message: &Message, passed: bool) {
-        let by_filter = &mut self.filters[usize::from(message.sent)];
-        by_filter[usize::from(message.filter)][usize::from(passed)] += 1;
+    pub fn filter(&mut self, put: &Put) {
+        let by_filter = &mut self.filters[usize::from(put.message.sent)];
+        by_filter[usize::from(put.message.filter)][usize::from(put.passes())] += 1;
     }
 
     pub fn all(&mut self) -> impl Iterator<Item = &mut u64> {
         let counting = self.counting.iter_mut().flatten();
         let votes = self.votes.iter_mut().flatten().flatten();
         let filters = self.filters.iter_mut().flatten().flatten();
-        counting.chain(votes).chain(filters)
+        let all = counting.chain(votes).chain(filters);
+        all.chain(self.old.all())
     }
 
     /// The least count of instances by agreement, and of what a filter does by direction.
@@ -123,6 +126,8 @@ impl fmt::Display for WholeCounts {
         writeln!(
             f,
             "  each filter passed and not, at least: received {received}, sent {sent}"
-        )
+        )?;
+        writeln!(f, "  received: {}", self.old.said(0, false))?;
+        writeln!(f, "  sent: {}", self.old.said(1, false))
     }
 }

@@ -9,7 +9,7 @@ use twin::case::Case;
 use twin::float::{compare, is_finite, mean, quotient, sum, Lies, INFINITE};
 use twin::layout::{read, Verdict};
 use twin::node::Node;
-use twin::pairs::{limits, means, orders, PATTERNS};
+use twin::pairs::{limits, means, orders, ORDERS, PATTERNS};
 use twin::patterns::{edges, Theme, MINUS_ZERO};
 use twin::random::Random;
 
@@ -177,20 +177,23 @@ fn cases_of_means_hold_all_pairs_and_divisors() {
 }
 
 #[test]
-fn cases_of_orders_hold_all_pairs_of_new_and_old() {
+fn cases_of_orders_hold_all_pairs_of_held_and_new() {
     let mut seen = HashSet::new();
-    for place in 0..PATTERNS {
-        // All six messages have the same values; what is not finite does not become old.
-        let mut new = instances(&orders(place)).into_iter().step_by(6).flatten();
-        let mut old = 0;
-        for new in new.by_ref().filter(|&new| is_finite(new)) {
-            seen.insert((old, new));
-            old = new;
+    for place in 0..ORDERS {
+        let case = orders(place);
+        let Verdict::Accepted(layout) = read(&case.file) else {
+            continue;
+        };
+        // They close once, so the initial values are held until then.
+        for (message, new) in layout.messages.iter().zip(instances(&case)) {
+            seen.insert((message.filter, message.initial, new));
         }
     }
-    for one in finite_edges() {
-        for other in finite_edges() {
-            assert!(seen.contains(&(one, other)));
+    for held in finite_edges() {
+        for new in edges() {
+            for filter in [4, 5, 10, 11, 12, 13] {
+                assert!(seen.contains(&(filter, held, vec![new])));
+            }
         }
     }
 }

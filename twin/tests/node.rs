@@ -1,13 +1,16 @@
 //! The node on the paper's examples, on the errors seen in course work, and on each sentence about
 //! the calls and the closing.
 
+use std::collections::BTreeSet;
+
 use twin::agreement::agree;
-use twin::bits::{pack, unpack};
+use twin::bits::{initial, pack, unpack, value};
 use twin::filter::passes;
-use twin::layout::{Field, Frame, Layout, Message, Sign};
+use twin::layout::{is_mask, Field, Frame, Layout, Message, Sign};
 use twin::node::{
-    Node, ACCESS, ID, INVALIDATED, NOFUNC, NOT_RECEIVED, OK, RDA_FAILED, SUPPRESSED, VALUE,
+    Node, Stage, ACCESS, ID, INVALIDATED, NOFUNC, NOT_RECEIVED, OK, RDA_FAILED, SUPPRESSED, VALUE,
 };
+use twin::old_counts::{Put, TELLING};
 
 fn frame(length: usize, sent: bool) -> Frame {
     Frame {
@@ -139,7 +142,7 @@ fn p7_to_p9_vote() {
 fn p10_filter_by_sending() {
     let layout = with_status(1, 10);
     let mut node = Node::start(&layout);
-    for (value, passes, held) in [(10, true, 10), (4, false, 10), (7, true, 7)] {
+    for (value, passes, held) in [(10, true, 10), (4, false, 10), (7, false, 10)] {
         assert_eq!(node.send(0, value), OK);
         let mut data = [0, 0];
         assert_eq!(node.assemble(0, &mut data), OK);
@@ -155,7 +158,7 @@ fn p10_filter_by_closing() {
     for (value, result) in [
         (10, (OK, Some(10))),
         (4, (NOT_RECEIVED, None)),
-        (7, (OK, Some(7))),
+        (7, (NOT_RECEIVED, None)),
     ] {
         assert_eq!(node.deliver(0, true, &[value, 1]), OK);
         node.close();
@@ -430,31 +433,41 @@ const INFINITY: u32 = 0x7F80_0000;
 const QUIET: u32 = 0x7FC0_0000;
 const SIGNALLING: u32 = 0xFF80_0001;
 
-/// A float in so many frames of five bytes, its status bit at 32.
-fn floats(frames: usize, sent: bool, agreement: u8, filter: u8) -> Layout {
+/// A message of 32 bits in so many frames of five bytes, its status bit at 32.
+fn wide(frames: usize, message: Message) -> Layout {
     let field = |number| Field {
         status: Some(32),
         ..field(0, number, 0)
     };
     Layout {
-        frames: (0..frames).map(|_| frame(5, sent)).collect(),
-        messages: vec![Message {
-            agreement,
-            filter,
-            ..message(32, Sign::Float, sent)
-        }],
+        frames: (0..frames).map(|_| frame(5, message.sent)).collect(),
+        messages: vec![message],
         fields: (0..frames).map(field).collect(),
     }
 }
 
-/// A closing with these instances, each in its own frame; one that does not count is none.
-fn close_with(node: &mut Node, instances: &[Option<u32>]) -> (u8, Option<u32>) {
+fn floats(frames: usize, sent: bool, agreement: u8, filter: u8) -> Layout {
+    let message = Message {
+        agreement,
+        filter,
+        ..message(32, Sign::Float, sent)
+    };
+    wide(frames, message)
+}
+
+/// A round with these instances, each in its own frame; one that does not count is none.
+fn play_round(node: &mut Node, instances: &[Option<u32>]) {
     for (number, &instance) in instances.iter().enumerate() {
         let mut data = instance.unwrap_or(ONE).to_le_bytes().to_vec();
         data.push(instance.is_some().into());
         assert_eq!(node.deliver(number as u64, true, &data), OK);
     }
     node.close();
+}
+
+/// What such a round shows of a float.
+fn close_with(node: &mut Node, instances: &[Option<u32>]) -> (u8, Option<u32>) {
+    play_round(node, instances);
     let (status, value) = received_of(node);
     (status, value.map(|value| u32::try_from(value).unwrap()))
 }
@@ -640,20 +653,144 @@ fn filters_of_floats() {
 
 #[test]
 fn zeros_put_to_filters() {
-    let second = |filter, first, second| {
-        let layout = floats(1, false, 0, filter);
-        let mut node = Node::start(&layout);
-        close_with(&mut node, &[Some(first)]);
-        close_with(&mut node, &[Some(second)])
+    let put = |filter, initial, new| {
+        let mut layout = floats(1, false, 0, filter);
+        layout.messages[0].initial = initial;
+        close_with(&mut Node::start(&layout), &[Some(new)])
     };
     let (filtered, zero) = ((NOT_RECEIVED, None), (OK, Some(MINUS_ZERO)));
-    assert_eq!(second(4, PLUS_ZERO, MINUS_ZERO), filtered);
-    assert_eq!(second(4, MINUS_ZERO, MINUS_ZERO), zero);
-    assert_eq!(second(5, PLUS_ZERO, MINUS_ZERO), zero);
-    assert_eq!(second(10, PLUS_ZERO, MINUS_ZERO), filtered);
-    assert_eq!(second(11, PLUS_ZERO, MINUS_ZERO), zero);
-    assert_eq!(second(12, PLUS_ZERO, MINUS_ZERO), filtered);
-    assert_eq!(second(13, PLUS_ZERO, MINUS_ZERO), zero);
+    assert_eq!(put(4, PLUS_ZERO, MINUS_ZERO), filtered);
+    assert_eq!(put(4, MINUS_ZERO, MINUS_ZERO), zero);
+    assert_eq!(put(5, PLUS_ZERO, MINUS_ZERO), zero);
+    assert_eq!(put(10, PLUS_ZERO, MINUS_ZERO), filtered);
+    assert_eq!(put(11, PLUS_ZERO, MINUS_ZERO), zero);
+    assert_eq!(put(12, PLUS_ZERO, MINUS_ZERO), filtered);
+    assert_eq!(put(13, PLUS_ZERO, MINUS_ZERO), zero);
+}
+
+/// Messages of 32 bits with each filter that they may have and each initial value of five, and three
+/// of these values for the filter, in all ways.
+fn ways(sent: bool) -> impl Iterator<Item = (Message, [u32; 3])> {
+    let whole = [-2_i32, -1, 0, 1, 2].map(|value| value as u32);
+    let floats = [ONE | MINUS_ZERO, MINUS_ZERO, PLUS_ZERO, ONE, TWO];
+    let signs = [(Sign::Signed, whole), (Sign::Float, floats)];
+    signs.into_iter().flat_map(move |(sign, values)| {
+        let filters = (0..14).filter(move |&filter| sign != Sign::Float || !is_mask(filter));
+        filters.flat_map(move |filter| {
+            (0..625).map(move |way| {
+                let [first, second, third, initial] = [1, 5, 25, 125].map(|n| values[way / n % 5]);
+                let message = Message {
+                    filter,
+                    // As a mask, some of the whole numbers are the same under it.
+                    x1: 2,
+                    initial,
+                    ..message(32, sign, sent)
+                };
+                (message, [first, second, third])
+            })
+        })
+    })
+}
+
+#[test]
+fn a_value_sent_is_compared_with_the_held_one() {
+    for (message, values) in ways(true) {
+        let layout = wide(1, message);
+        let message = &layout.messages[0];
+        let mut node = Node::start(&layout);
+        let mut held = message.initial;
+        for new in values {
+            let passed = passes(message, value(message, new), value(message, held));
+            held = if passed { new } else { held };
+            let mut data = [0; 5];
+            assert_eq!(node.send(0, value(message, new)), OK);
+            assert_eq!(node.assemble(0, &mut data), OK);
+            assert_eq!(data[..4], held.to_le_bytes());
+            assert_eq!(data[4], passed.into());
+        }
+    }
+}
+
+#[test]
+fn a_value_agreed_on_is_compared_with_the_held_one() {
+    for (message, values) in ways(false) {
+        let layout = wide(1, message);
+        let message = &layout.messages[0];
+        let mut node = Node::start(&layout);
+        let mut held = value(message, message.initial);
+        for new in values {
+            let instance = value(message, new);
+            let expected = match passes(message, instance, held) {
+                true => (OK, Some(instance)),
+                false => (NOT_RECEIVED, None),
+            };
+            play_round(&mut node, &[Some(new)]);
+            assert_eq!(received_of(&node), expected);
+            held = expected.1.unwrap_or(held);
+        }
+    }
+}
+
+#[test]
+fn a_value_that_does_not_pass_leaves_no_trace() {
+    let mut not_passed = 0;
+    for (message, values) in ways(true) {
+        let layout = wide(1, message);
+        let mut node = Node::start(&layout);
+        for new in values {
+            // As if it were invalidated, but that its field is waiting as after any send.
+            let mut other = node.clone();
+            other.invalidate(0);
+            other.stages.fill(Stage::Waiting);
+            node.send(0, value(&layout.messages[0], new));
+            not_passed += usize::from(!node.states[0].valid);
+            assert!(node.states[0].valid || node == other);
+        }
+    }
+    for (message, values) in ways(false) {
+        let layout = wide(1, message);
+        let mut node = Node::start(&layout);
+        for new in values {
+            // As if nothing came.
+            let mut other = node.clone();
+            play_round(&mut other, &[]);
+            play_round(&mut node, &[Some(new)]);
+            not_passed += usize::from(node.states[0].status != OK);
+            assert!(node.states[0].status == OK || node == other);
+        }
+    }
+    assert!(not_passed >= 10_000);
+}
+
+#[test]
+fn filters_that_tell_the_held_value_from_others() {
+    let mut telling = [BTreeSet::new(), BTreeSet::new()];
+    for (message, values) in ways(false) {
+        let (mut held, mut last) = (initial(&message), initial(&message));
+        for new in values.map(|new| value(&message, new)) {
+            let message = &message;
+            let put = Put {
+                message,
+                new,
+                held,
+                last,
+            };
+            for (telling, tells) in telling.iter_mut().zip(put.tells()) {
+                if tells {
+                    telling.insert((message.sign == Sign::Float, message.filter));
+                }
+            }
+            held = if put.passes() { new } else { held };
+            last = new;
+        }
+    }
+    for (telling, filters) in telling.into_iter().zip(TELLING) {
+        let floats = filters.into_iter().filter(|&filter| !is_mask(filter));
+        let both = filters.map(|filter| (false, filter)).into_iter();
+        assert!(telling
+            .into_iter()
+            .eq(both.chain(floats.map(|filter| (true, filter)))));
+    }
 }
 
 #[test]

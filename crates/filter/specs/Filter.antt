@@ -1,6 +1,6 @@
 -- What each of the fourteen message filters passes. Masks work on the 32-bit patterns of values, order on values, and on numbers where the values are
--- floats; a float's value is its pattern, so filters 4 and 5 compare patterns. x1 and x2 are 32-bit patterns, as the layout has them, `old` is the value
--- last put to the filter, and the sign is 0 unsigned, 1 signed, 2 float.
+-- floats; a float's value is its pattern, so filters 4 and 5 compare patterns. x1 and x2 are 32-bit patterns, as the layout has them, `old` is the
+-- value that the message holds, and the sign is 0 unsigned, 1 signed, 2 float.
 -- Assumes nothing.
 use mathlib.Core.Bool.{Bool, true, false, not, cond, _&&_, _||_}
 use mathlib.Core.List.{List, [], _∷_}

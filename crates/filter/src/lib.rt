@@ -41,7 +41,7 @@ fn is_at_most(sign: u8, u: i64, v: i64) -> bool
     !is_below(sign, v, u)
 }
 
-// Whether a message's filter passes a new value, where old is the one last put to it.
+// Whether a message's filter passes a new value, where old is the one that the message holds.
 pub fn passes(filter: u8, sign: u8, x1: u32, x2: u32, new: i64, old: i64) -> bool
     ensures { λ r. ⌜ r ≡ passes filter sign x1 x2 new old ⌝ }
 {

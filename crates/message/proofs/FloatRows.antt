@@ -9,12 +9,12 @@ use Rattle.float.specs.Rounding.{nearestEven, dropped, unbounded, rounded, roun
 use Rattle.agreement.specs.Agreement.{countOf, ahead, oneThat, vote}
 use Rattle.agreement.specs.Floats.{leftOf, sumFrom, finiteValue, floatMean, leftAgreed, floatsAgreed}
 use Rattle.filter.specs.Filter.{compared, bound, rules, passes}
-use Rattle.message.specs.Messages.{canHold, passesNow, put, offered, agreedBy, filtered}
-use Rattle.message.specs.FloatRows.{Rows}
+use Rattle.message.specs.Messages.{canHold, passesNow, offered, agreedBy, filtered}
+use Rattle.message.specs.FloatRows.{validities, statuses, Rows}
 
 pub rows : Rows
 unfolding
-    canHold passesNow put offered agreedBy filtered
+    validities statuses canHold passesNow offered agreedBy filtered
     isWidth least greatest inRange valueOf patternOf allOf
     compared bound rules passes
     leftOf sumFrom finiteValue floatMean leftAgreed floatsAgreed countOf ahead oneThat vote
@@ -37,4 +37,12 @@ rows =
       not-above = refl;
       not-equal = refl;
       unequal = refl;
+      above = refl;
+      at-most = refl;
+      less = refl;
+      at-least = refl;
+      above-closed = refl;
+      at-most-closed = refl;
+      less-closed = refl;
+      at-least-closed = refl;
     }

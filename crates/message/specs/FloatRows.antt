@@ -1,8 +1,8 @@
--- Rows for a message of sign 2: what it can hold, what a closing settles, what its filter passes. antt computes each from the definitions.
+-- Rows for a message of sign 2: what it can hold, what a closing settles, what its filter passes and compares with. antt computes each from the definitions.
 -- Assumes nothing.
 use mathlib.Core.Path.{_≡_}
-use mathlib.Core.Bool.{true, false}
-use mathlib.Core.List.{[], _∷_}
+use mathlib.Core.Bool.{Bool, true, false}
+use mathlib.Core.List.{List, [], _∷_}
 use Prim.Native.Nat.{ℕ}
 use lib.IntN.{pos, negsuc}
 use Rattle.store.specs.declared.Message.{Message}
@@ -31,6 +31,26 @@ float agreement filter =
 abbrev pub zero : MessageState
 zero = atFirst 0 0
 
+-- whether one with that filter is valid after each of some patterns is sent, one after the other
+unfoldable pub validities : ℕ → MessageState → List ℕ → List Bool
+validities filter s [] = []
+validities filter s (x ∷ l) = isValid (offered (float 0 filter) s (pos x)) ∷ validities filter (offered (float 0 filter) s (pos x)) l
+
+-- and its status after each of some rounds in which one instance counts
+unfoldable pub statuses : ℕ → MessageState → List ℕ → List ℕ
+statuses filter s [] = []
+statuses filter s (x ∷ l) = settled (float 0 filter) s false (pos x ∷ []) .status ∷ statuses filter (settled (float 0 filter) s false (pos x ∷ [])) l
+
+-- 10, 4, 7; 4, 2, -0, -1, -0.5; and -1, -0.5, -0, 1, 0.5
+abbrev pub tenFourSeven : List ℕ
+tenFourSeven = 0x4120_0000 ∷ 0x4080_0000 ∷ 0x40e0_0000 ∷ []
+
+abbrev pub fourDown : List ℕ
+fourDown = 0x4080_0000 ∷ 0x4000_0000 ∷ 0x8000_0000 ∷ 0xbf80_0000 ∷ 0xbf00_0000 ∷ []
+
+abbrev pub minusOneUp : List ℕ
+minusOneUp = 0xbf80_0000 ∷ 0xbf00_0000 ∷ 0x8000_0000 ∷ 0x3f80_0000 ∷ 0x3f00_0000 ∷ []
+
 pub record Rows : Type 0 where
   -- -0 can be held; infinities, NaNs and what is no pattern cannot
   pub held : canHold (float 0 0) (pos 0x8000_0000) ≡ true
@@ -53,3 +73,12 @@ pub record Rows : Type 0 where
   pub not-above : isValid (offered (float 0 13) zero (pos 0x8000_0000)) ≡ true
   pub not-equal : isValid (offered (float 0 4) zero (pos 0x8000_0000)) ≡ false
   pub unequal : isValid (offered (float 0 5) zero (pos 0x8000_0000)) ≡ true
+  -- filters 10 to 13 compare with the number of the held pattern, +0 at start and then the last one that passed
+  pub above : validities 10 zero tenFourSeven ≡ true ∷ false ∷ false ∷ []
+  pub at-most : validities 11 zero fourDown ≡ false ∷ false ∷ true ∷ true ∷ false ∷ []
+  pub less : validities 12 zero fourDown ≡ false ∷ false ∷ false ∷ true ∷ false ∷ []
+  pub at-least : validities 13 zero minusOneUp ≡ false ∷ false ∷ true ∷ true ∷ false ∷ []
+  pub above-closed : statuses 10 zero tenFourSeven ≡ 0 ∷ 21 ∷ 21 ∷ []
+  pub at-most-closed : statuses 11 zero fourDown ≡ 21 ∷ 21 ∷ 0 ∷ 0 ∷ 21 ∷ []
+  pub less-closed : statuses 12 zero fourDown ≡ 21 ∷ 21 ∷ 21 ∷ 0 ∷ 21 ∷ []
+  pub at-least-closed : statuses 13 zero minusOneUp ≡ 21 ∷ 21 ∷ 0 ∷ 0 ∷ 21 ∷ []

@@ -13,7 +13,7 @@ use Rattle.agreement.specs.declared.Agreed.the-variants.{Value, NoResult}
 use Rattle.filter.specs.Filter.{passes}
 use Rattle.store.specs.declared.Message.{Message}
 use Rattle.store.specs.declared.MessageState.{MessageState}
-use Rattle.store.specs.Node.{isSigned, isFloat, oldValue, withValid, withStatus, withHeld, withOld}
+use Rattle.store.specs.Node.{isSigned, isFloat, heldValue, withValid, withStatus, withHeld}
 
 -- ---- sending
 
@@ -21,20 +21,17 @@ use Rattle.store.specs.Node.{isSigned, isFloat, oldValue, withValid, withStatus
 unfoldable pub canHold : Message → ℤ → Bool
 canHold g v = inRange (isSigned g) (g .width) v && not (isFloat g && aside (patternOf 32 v))
 
--- the message's filter passes the value
+-- the message's filter passes the value; old is the value that the message holds
 unfoldable pub passesNow : Message → MessageState → ℤ → Bool
-passesNow g s v = passes (g .filter) (g .sign) (g .x1) (g .x2) v (oldValue g s)
+passesNow g s v = passes (g .filter) (g .sign) (g .x1) (g .x2) v (heldValue g s)
 
--- a value that is put to the filter is the next old value, passed or not; one that passes is held
-unfoldable pub put : Message → MessageState → ℤ → MessageState
-put g s v = cond (passesNow g s v) (withHeld (patternOf 32 v) (withOld (patternOf 32 v) s)) (withOld (patternOf 32 v) s)
-
--- if it passes the message is valid, and if not invalid
-unfoldable pub offered : Message → MessageState → ℤ → MessageState
-offered g s v = withValid (cond (passesNow g s v) 1 0) (put g s v)
-
+-- invalidate makes the message invalid; nothing else changes
 abbrev pub invalidated : MessageState → MessageState
 invalidated s = withValid 0 s
+
+-- the value goes to the filter: if it passes it is held and the message is valid; if not, the held value stays and the message is invalid
+unfoldable pub offered : Message → MessageState → ℤ → MessageState
+offered g s v = cond (passesNow g s v) (withValid 1 (withHeld (patternOf 32 v) s)) (invalidated s)
 
 -- ---- closing
 
@@ -63,9 +60,9 @@ statusOf held = 0
 unfoldable pub agreedBy : Message → List ℤ → Agreed
 agreedBy g l = cond (isFloat g) (floatsAgreed (g .agreement) l) (agreed (g .agreement) l)
 
--- an agreed value is put to the filter
+-- an agreed value goes to the filter: if it passes it is held; if not, the held value stays
 unfoldable pub filtered : Message → MessageState → ℤ → MessageState
-filtered g s v = withStatus (cond (passesNow g s v) (statusOf held) (statusOf stopped)) (put g s v)
+filtered g s v = cond (passesNow g s v) (withStatus (statusOf held) (withHeld (patternOf 32 v) s)) (withStatus (statusOf stopped) s)
 
 -- if there is one
 abbrev pub agreedOn : Message → MessageState → Agreed → MessageState

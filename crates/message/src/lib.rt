@@ -2,7 +2,7 @@
 ghost use mathlib.Core.Path.{_≡_};
 ghost use mathlib.Core.Bool.{cond};
 ghost use Rattle.packing.specs.Values.{patternOf};
-ghost use Rattle.store.specs.Node.{withStatus, withHeld, withOld};
+ghost use Rattle.store.specs.Node.{withStatus, withHeld};
 ghost use Rattle.message.specs.Messages.{canHold, offered, invalidated, agreedBy, filtered, agreedOn, settled};
 ghost use Rattle.message.specs.Fields.{stageAfter, isGone, writes};
 use agreement::Agreed;
@@ -33,13 +33,12 @@ pub fn can_hold(g: Message, value: i64) -> bool
     packing::in_range(value, g.width, g.sign == 1)
 }
 
-// A value that was put to the filter is the next old value, and held if it passed.
-fn put(s: MessageState, value: i64, passed: bool) -> MessageState
-    ensures { λ r. ⌜ r ≡ cond passed (withHeld (patternOf 32 value) (withOld (patternOf 32 value) s)) (withOld (patternOf 32 value) s) ⌝ }
+// A value is held if it passed.
+fn held_if(passed: bool, s: MessageState, value: i64) -> MessageState
+    ensures { λ r. ⌜ r ≡ cond passed (withHeld (patternOf 32 value) s) s ⌝ }
 {
     let pattern = packing::pattern_of(value);
     let mut t = s;
-    t.old = pattern;
     if passed {
         t.held = pattern;
     }
@@ -52,10 +51,10 @@ pub fn offered_state(g: Message, s: MessageState, value: i64) -> MessageState
 {
     let mut passed = true;
     if g.filter != 0 {
-        let old = packing::value_of(s.old, 32, g.sign == 1);
+        let old = packing::value_of(s.held, 32, g.sign == 1);
         passed = filter::passes(g.filter, g.sign, g.x1, g.x2, value, old);
     }
-    let mut t = put(s, value, passed);
+    let mut t = held_if(passed, s, value);
     t.valid = passed as u8;
     t
 }
@@ -82,10 +81,10 @@ fn filtered_state(g: Message, s: MessageState, agreed: i64) -> MessageState
 {
     let mut passed = true;
     if g.filter != 0 {
-        let old = packing::value_of(s.old, 32, g.sign == 1);
+        let old = packing::value_of(s.held, 32, g.sign == 1);
         passed = filter::passes(g.filter, g.sign, g.x1, g.x2, agreed, old);
     }
-    let mut t = put(s, agreed, passed);
+    let mut t = held_if(passed, s, agreed);
     t.status = if passed { 0 } else { 21 };
     t
 }

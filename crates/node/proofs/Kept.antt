@@ -46,14 +46,13 @@ use Rattle.store.specs.Node.{
   withValid,
   withStatus,
   withHeld,
-  withOld,
   nodeWith,
 }
 use Rattle.message.specs.declared.Change.{Change}
-use Rattle.message.specs.Messages.{canHold, passesNow, put, offered, filtered, agreedBy, agreedOn, settled}
+use Rattle.message.specs.Messages.{canHold, passesNow, offered, filtered, agreedBy, agreedOn, settled}
 use Rattle.message.specs.Fields.{stageAfter}
 use Rattle.message.proofs.Held.{held-in-range}
-use Rattle.message.proofs.Passed.{decided}
+use Rattle.message.proofs.Passed.{true-passes}
 use Rattle.own.specs.declared.Owner.{Owner}
 use Rattle.own.specs.Own.{changed, isIn, cellsOf}
 use Rattle.node.specs.Calls.{outcome, sendAnswer, sendOf, invalidateAnswer, invalidateOf}
@@ -131,9 +130,7 @@ module _ {g : Message} where
         sent-status = s .sent-status;
         status = s .status;
         held-word = s .held-word;
-        old-word = s .old-word;
         held = s .held;
-        old = s .old;
       }
 
   -- of a received one
@@ -146,26 +143,10 @@ module _ {g : Message} where
         sent-status = λ sent. absurd (true≢false (sym sent ∙ received));
         status = h;
         held-word = s .held-word;
-        old-word = s .old-word;
         held = s .held;
-        old = s .old;
       }
 
   module _ (v : ℤ) (r : canHold g v ≡ true) {s : MessageState} (h : SoundMessageState g s) where
-    old-kept : SoundMessageState g (withOld (patternOf 32 v) s)
-    old-kept =
-        record {
-          valid = h .valid;
-          always-valid = h .always-valid;
-          received-valid = h .received-valid;
-          sent-status = h .sent-status;
-          status = h .status;
-          held-word = h .held-word;
-          old-word = pattern-below 32 v;
-          held = h .held;
-          old = rw (pattern-held g v r) r;
-        }
-
     held-kept : SoundMessageState g (withHeld (patternOf 32 v) s)
     held-kept =
         record {
@@ -175,26 +156,21 @@ module _ {g : Message} where
           sent-status = h .sent-status;
           status = h .status;
           held-word = pattern-below 32 v;
-          old-word = h .old-word;
           held = rw (pattern-held g v r) r;
-          old = h .old;
         }
 
-  module _ (v : ℤ) (r : canHold g v ≡ true) {s : MessageState} (h : SoundMessageState g s) where
-    put-kept : SoundMessageState g (put g s v)
-    unfolding put
-    put-kept = by-test (SoundMessageState g) (passesNow g s v) (λ t. held-kept v r (old-kept v r h)) (λ t. old-kept v r h)
-
-    -- sent without status bit it has filter True
+    -- sent without status bit it has filter True, which passes every value
     offered-kept : isSent g ≡ true → (hasStatusBit g ≡ false → g .filter ≡ 0) → SoundMessageState g (offered g s v)
     unfolding offered
     offered-kept sent true-filter =
-        valid-kept _ (at-most-one (passesNow g s v)) sent (λ none. rw (← decided g s v (inr (true-filter none, refl))) refl) put-kept
+        by-test (SoundMessageState g) (passesNow g s v) (λ t. valid-kept 1 (omega arith) sent (λ none. refl) held-kept)
+        (λ t. valid-kept 0 (omega arith) sent (λ none. absurd (true≢false (sym (true-passes g s v (true-filter none)) ∙ t))) h)
 
     filtered-kept : isSent g ≡ false → SoundMessageState g (filtered g s v)
     unfolding filtered
     filtered-kept received =
-        status-kept _ (by-test IsStatus (passesNow g s v) (λ t. inl refl) (λ t. inr (inr (inl refl)))) received put-kept
+        by-test (SoundMessageState g) (passesNow g s v) (λ t. status-kept 0 (inl refl) received held-kept)
+        (λ t. status-kept 21 (inr (inr (inl refl))) received h)
 
   settled-kept : {s : MessageState} (none : Bool) (l : List ℤ) → ((v : ℤ) → agreedBy g l ≡ Value v → canHold g v ≡ true) → isSent g ≡ false
       → SoundMessageState g s → SoundMessageState g (settled g s none l)

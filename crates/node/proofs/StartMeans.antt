@@ -1,6 +1,6 @@
--- What the paper says of a node at start holds after every load that answers 0: each message holds its initial value, which is also its old value, a
--- received one has status 21, a sent one is valid exactly if it has no status bit, and all fields are gone, so that its flag is set. Each is read off
--- the cells that the load makes.
+-- What the paper says of a node at start holds after every load that answers 0: each message holds its initial value, a received one has
+-- status 21, a sent one is valid exactly if it has no status bit, and all fields are gone, so that its flag is set. Each is read off the cells that the
+-- load makes.
 -- Assumes nothing.
 use mathlib.Core.Path.{_≡_, refl}
 use mathlib.Core.Bool.{Bool, true, false, not, cond}
@@ -50,7 +50,6 @@ module _ (s : List ℕ) (F M D : ℕ) where
   start-means w =
       record {
         held = λ m l. rw (message-at s F M D w m (omega arith), state-at s F M D w m (omega arith));
-        old = λ m l. rw (message-at s F M D w m (omega arith), state-at s F M D w m (omega arith));
         received = λ m l got. rw (lt-ltb m (min M 32) l, got, state-at s F M D w m (omega arith));
         sent = λ m l sent.
             rw (message-at s F M D w m (omega arith), state-at s F M D w m (omega arith)) (valid-without (startStatusBit s (F + M) D m));

@@ -68,18 +68,14 @@ module _ (s : List ℕ) (F M D : ℕ) (w : WellLaid s F M D) where
   unfolding startMessage
   initial-sound m l =
       let r = w .messages m l .initial in
-      let word = extended-word _ _ _ (r .fits) in
-      let held = word-held (startMessage s F (F + M) D m) _ (extended-held _ _ _ (r .fits)) (λ float. r .finite (eqb-true _ _ float)) in
       record {
         valid = at-most-one (eqb (statusBit m) 0);
         always-valid = λ none. rw (not-false (eqb (statusBit m) 0) none) refl;
         received-valid = λ received bit. rw (not-true (eqb (statusBit m) 0) bit) refl;
         sent-status = λ sent. refl;
         status = inr (inr (inl refl));
-        held-word = word;
-        old-word = word;
-        held = held;
-        old = held;
+        held-word = extended-word _ _ _ (r .fits);
+        held = word-held (startMessage s F (F + M) D m) _ (extended-held _ _ _ (r .fits)) (λ float. r .finite (eqb-true _ _ float));
       }
 
   sound-state : SoundState (startLayout s F M D) state

@@ -12,7 +12,7 @@ use Rattle.packing.specs.Values.{valueOf}
 use Rattle.record.specs.declared.Field.{Field as FieldRecord}
 use Rattle.store.specs.declared.Message.{Message}
 use Rattle.store.specs.declared.MessageState.{MessageState}
-use Rattle.store.specs.Node.{Node, messageCount, isSigned, isSent, isValid, hasStatusBit, isEvent, heldValue, oldValue, frameCount, isSentFrame}
+use Rattle.store.specs.Node.{Node, messageCount, isSigned, isSent, isValid, hasStatusBit, isEvent, heldValue, frameCount, isSentFrame}
 use Rattle.store.specs.Node.{frameAt, messageAt, laidAt, stateAt}
 use Rattle.start.specs.Start.{initialValue}
 use Rattle.message.specs.Fields.{isGone}
@@ -27,8 +27,6 @@ use Rattle.node.specs.Sound.{IsStatus, Sound}
 pub record AtStart (s : List ℕ) (n : Node) : Type 0 where
   pub held : (m : ℕ) → m < messageCount (n .layout)
       → heldValue (messageAt (n .layout) m) (stateAt (n .state) m) ≡ initialValue s (n .layout .frame-number + m)
-  pub old : (m : ℕ) → m < messageCount (n .layout)
-      → oldValue (messageAt (n .layout) m) (stateAt (n .state) m) ≡ initialValue s (n .layout .frame-number + m)
   pub received : (m : ℕ) → m < messageCount (n .layout) → isSent (messageAt (n .layout) m) ≡ false → receiveAnswer n m ≡ 21
   pub sent : (m : ℕ) → m < messageCount (n .layout) → isSent (messageAt (n .layout) m) ≡ true
       → isValid (stateAt (n .state) m) ≡ not (hasStatusBit (messageAt (n .layout) m))

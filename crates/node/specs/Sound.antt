@@ -11,7 +11,7 @@ use Rattle.store.specs.declared.Frame.{Frame}
 use Rattle.store.specs.declared.Message.{Message}
 use Rattle.store.specs.declared.MessageState.{MessageState}
 use Rattle.store.specs.Node.{Layout, Delivery, State, Node, isSent, hasStatusBit, isSentFrame, isDelivered, isValid}
-use Rattle.store.specs.Node.{heldValue, oldValue}
+use Rattle.store.specs.Node.{heldValue}
 use Rattle.store.specs.Node.{frameAt, messageAt, laidAt, deliveryAt, stateAt, stageAt, noDelivery, noState, noStage}
 use Rattle.message.specs.Messages.{canHold}
 use Rattle.own.specs.SoundLayout.{SoundLayout}
@@ -29,7 +29,7 @@ pub record SoundDelivery (h : Frame) (y : Delivery) : Type 0 where
 abbrev pub IsStatus : ℕ → Type 0
 IsStatus k = (k ≡ 0) ⊎ ((k ≡ 20) ⊎ ((k ≡ 21) ⊎ (k ≡ 22)))
 
--- message g has values that it can hold, as patterns of 32 bits. Without status bit it is valid, always; and what only the other direction has, the
+-- message g has a value that it can hold, as its pattern of 32 bits. Without status bit it is valid, always; and what only the other direction has, the
 -- validity of a received one and the status of a sent one, stays as at start
 pub record SoundMessageState (g : Message) (s : MessageState) : Type 0 where
   pub valid : s .valid ≤ 1
@@ -38,9 +38,7 @@ pub record SoundMessageState (g : Message) (s : MessageState) : Type 0 where
   pub sent-status : isSent g ≡ true → s .status ≡ 21
   pub status : IsStatus (s .status)
   pub held-word : s .held < 2 ^ 32
-  pub old-word : s .old < 2 ^ 32
   pub held : canHold g (heldValue g s) ≡ true
-  pub old : canHold g (oldValue g s) ≡ true
 
 -- waiting, loaded or gone
 abbrev pub IsStage : Stage → Type 0

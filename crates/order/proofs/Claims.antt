@@ -21,6 +21,7 @@ use Rattle.order.proofs.ReplicasExample.{replicas-example}
 use Rattle.order.proofs.Floats.{floats-agree, all-aside, mean-shown}
 use Rattle.order.proofs.Counting.{frame-order, lowest-agreed, some-lowest, average-agreed, agreed-shown}
 use Rattle.order.proofs.Endings.{none-delivered, none-counting, none-agreed, agreed-stopped, not-held, sent-holds, filtered-holds}
+use Rattle.order.proofs.Old.{old-held, old-received, sent-kept}
 use Rattle.order.proofs.Refusals.{refusal, load-refusal, load-tells}
 use Rattle.order.proofs.StoredCalls.{has-run}
 use Rattle.order.proofs.StoredLoads.{has-load}
@@ -79,6 +80,9 @@ claims =
       not-held = λ n s. not-held s;
       sent-holds = λ n s. sent-holds s;
       filtered-holds = filtered-holds;
+      sent-kept = λ n s. sent-kept s;
+      old-held = old-held;
+      old-received = old-received;
       refusal = refusal;
       load-refusal = load-refusal;
       load-tells = load-tells;

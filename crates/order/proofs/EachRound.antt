@@ -63,8 +63,7 @@ same-message g a a′ s s′ same =
     rw (
       one-byte (a .valid) (a′ .valid) (s .valid) (s′ .valid) (valid (isSent g) (hasStatusBit g) refl refl),
       status (isSent g) refl,
-      same .values .held,
-      same .values .old,
+      same .values,
     )
   where
     valid : (sent bit : Bool) → isSent g ≡ sent → hasStatusBit g ≡ bit → isValid a ≡ isValid a′

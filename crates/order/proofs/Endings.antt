@@ -1,6 +1,6 @@
 -- How a round ends for a received message of which no value is shown, and what a send holds. Where no field of the message counts there is no instance,
--- and whether one of its frames came says 21 or 22; where one counts, no agreement says 20 and the filter 21. By cases on the ending, the held value
--- changes only where the status is 0.
+-- and whether one of its frames came says 21 or 22; where one counts, no agreement says 20 and the filter 21. By cases on the ending, nothing
+-- but the status changes unless it is 0.
 -- Assumes nothing.
 use mathlib.Core.Path.{_≡_, refl, sym, ap, _∙_}
 use mathlib.Core.Bool.{Bool, true, false, not, and-eq-true-iff, true≢false}
@@ -18,7 +18,7 @@ use Rattle.record.specs.declared.Field.{Field as FieldRecord}
 use Rattle.store.specs.declared.Message.{Message}
 use Rattle.store.specs.declared.MessageState.{MessageState}
 use Rattle.store.specs.Node.{Node, isDelivered, isValid, heldValue, messageAt, laidAt, deliveryAt, noState, stateAt, withStatus}
-use Rattle.message.specs.Messages.{passesNow, put, offered, agreedBy, filtered, agreedOn, settled}
+use Rattle.message.specs.Messages.{passesNow, invalidated, offered, agreedBy, filtered, agreedOn, settled}
 use Rattle.own.specs.declared.Owner.{Owner}
 use Rattle.own.specs.Own.{chosen, fieldsOf}
 use Rattle.own.proofs.Lists.{Every, chosen-each, all-every}
@@ -36,17 +36,18 @@ use Rattle.order.proofs.Counting.{own-counting, some-instance}
 
 -- ---- a closing
 
--- a status other than 0 leaves the held value
-settled-held : (g : Message) (s : MessageState) (none : Bool) (l : List ℤ) → (settled g s none l .status ≡ 0 → ⊥) → settled g s none l .held ≡ s .held
-unfolding filtered put
-settled-held g s none [] h = refl
-settled-held g s none (v ∷ l) h = go (agreedBy g (v ∷ l)) h
+-- a status other than 0 is all that changes
+settled-otherwise : (g : Message) (s : MessageState) (none : Bool) (l : List ℤ) → (settled g s none l .status ≡ 0 → ⊥)
+    → settled g s none l ≡ withStatus (settled g s none l .status) s
+unfolding filtered
+settled-otherwise g s none [] h = refl
+settled-otherwise g s none (v ∷ l) h = go (agreedBy g (v ∷ l)) h
   where
-    by-filter : (v : ℤ) (t : Bool) → passesNow g s v ≡ t → (filtered g s v .status ≡ 0 → ⊥) → filtered g s v .held ≡ s .held
+    by-filter : (v : ℤ) (t : Bool) → passesNow g s v ≡ t → (filtered g s v .status ≡ 0 → ⊥) → filtered g s v ≡ withStatus (filtered g s v .status) s
     by-filter v true t h = absurd (h (rw t refl))
     by-filter v false t h = rw t refl
 
-    go : (a : Agreed) → (agreedOn g s a .status ≡ 0 → ⊥) → agreedOn g s a .held ≡ s .held
+    go : (a : Agreed) → (agreedOn g s a .status ≡ 0 → ⊥) → agreedOn g s a ≡ withStatus (agreedOn g s a .status) s
     go NoResult h = refl
     go (Value v) h = by-filter v (passesNow g s v) refl h
 
@@ -108,12 +109,14 @@ module _ {n : Node} (s : Sound n) (m : ℕ) (received : isReceived (n .layout) m
         → (p : ℤ) → seenOf (next n close) (receive m p) ≡ sees 21 (value p)
     agreed-stopped v e fails p = stopped-shown s m received p v fails (agreed-closed (Value v) e)
 
-  pub not-held : (p : ℤ) → (answerOf (next n close) (receive m p) ≡ 0 → ⊥) → stateAt (next n close .state) m .held ≡ before .held
+  pub not-held : (p : ℤ) → (answerOf (next n close) (receive m p) ≡ 0 → ⊥)
+      → stateAt (next n close .state) m ≡ withStatus (answerOf (next n close) (receive m p)) before
   unfolding closedState
   not-held p h =
       let answer = ap (λ (x : Seen). x .answer) (closed-shown s m received p _ refl) in
-      ap (λ (x : MessageState). x .held) (received-closed s m received)
-      ∙ settled-held g before (noneCame n m) (instances n m) (λ e. h (answer ∙ e))
+      received-closed s m received
+      ∙ settled-otherwise g before (noneCame n m) (instances n m) (λ e. h (answer ∙ e))
+      ∙ ap (λ (k : ℕ). withStatus k before) (sym answer)
 
 -- ---- a send
 
@@ -126,8 +129,8 @@ sent-holds s m v ok passes = (passed-message s m v ok passes .1, rw (sent-state 
 -- a state that has no cell for the message has it as invalid, and stays
 pub filtered-holds : (n : Node) (m : ℕ) (v : ℤ) → answerOf n (send m v) ≡ 0
     → passesNow (messageAt (n .layout) m) (stateAt (n .state) m) v ≡ false
-    → (stateAt (next n (send m v) .state) m .held ≡ stateAt (n .state) m .held) × (isValid (stateAt (next n (send m v) .state) m) ≡ false)
-unfolding sendOf offered put
+    → stateAt (next n (send m v) .state) m ≡ invalidated (stateAt (n .state) m)
+unfolding sendOf offered
 filtered-holds n m v ok fails = rw ok (go (decLt m (length states)))
   where
     states : List MessageState
@@ -136,7 +139,6 @@ filtered-holds n m v ok fails = rw ok (go (decLt m (length states)))
     after : MessageState
     after = offered (messageAt (n .layout) m) (stateAt (n .state) m) v
 
-    go : Dec (m < length states) → (getD (set states m after) m noState .held ≡ getD states m noState .held)
-        × (isValid (getD (set states m after) m noState) ≡ false)
-    go (yes room) = rw (getD-set-same states m after noState room, fails) (refl, refl)
-    go (no past) = rw (set-out states m after (omega arith), List·getD-eq-default states noState {n = m} (omega arith)) (refl, refl)
+    go : Dec (m < length states) → getD (set states m after) m noState ≡ invalidated (getD states m noState)
+    go (yes room) = rw (getD-set-same states m after noState room, fails) refl
+    go (no past) = rw (set-out states m after (omega arith), List·getD-eq-default states noState {n = m} (omega arith)) refl

@@ -36,7 +36,7 @@ use Rattle.start.specs.Start.{
   startState,
   startOf,
 }
-use Rattle.message.specs.Messages.{canHold, passesNow, put, offered}
+use Rattle.message.specs.Messages.{canHold, passesNow, offered}
 use Rattle.message.specs.Fields.{statusPlaces, writes}
 use Rattle.own.specs.Own.{chosen, owns, cellsOf}
 use Rattle.node.specs.Calls.{Outcome, sendAnswer, sendOf, suppressed, assembleAnswer, written, assembleOf, assembled}
@@ -106,7 +106,7 @@ unfolding
     startLayout startState startFrames startIndex startMessages startStates startFields
     table selected laidFrame frameByFrame startMessageOrNone startMessage stateOrNone startLaid
     cellsOf chosen owns
-    sendOf sendAnswer canHold inRange isWidth least greatest offered put passesNow passes rules
+    sendOf sendAnswer canHold inRange isWidth least greatest offered passesNow passes rules
     assembleOf assembleAnswer suppressed assembled written writes statusPlaces
     placesIn inFrame places bitPlaces frameBit placeOf packed putBit withBit bitOf patternOf
 shown = (refl, refl, refl, refl)

@@ -16,11 +16,11 @@ use Rattle.agreement.specs.declared.Agreed.the-variants.{Value, NoResult}
 use Rattle.agreement.specs.Agreement.{oneThat, vote}
 use Rattle.agreement.specs.Floats.{leftOf, sumFrom, finiteValue, floatMean, leftAgreed, floatsAgreed}
 use Rattle.agreement.proofs.Running.{left-few}
-use Rattle.filter.specs.Filter.{rules, passes}
 use Rattle.store.specs.declared.Message.{Message}
 use Rattle.store.specs.declared.MessageState.{MessageState}
 use Rattle.store.specs.Node.{Node, isSent, isFloat, messageAt, stateAt, withStatus}
-use Rattle.message.specs.Messages.{passesNow, agreedBy, agreedOn}
+use Rattle.message.specs.Messages.{agreedBy, agreedOn}
+use Rattle.message.proofs.Passed.{true-passes}
 use Rattle.closing.specs.Closing.{instances, isReceived}
 use Rattle.node.specs.Sound.{Sound}
 use Rattle.closing.proofs.Instances.{instances-few, agreed-in-message}
@@ -50,11 +50,6 @@ mean-agreed : (a : ℕ) (l : List ℤ) (v : ℤ) (k : List ℤ) → a ≡ 1 → 
     → leftAgreed a l ≡ finiteValue (over (sumFrom (patternOf 32 v) k) (length (v ∷ k)))
 unfolding leftAgreed floatMean
 mean-agreed a l v k e f = rw (e, f) refl
-
--- filter True passes every value
-true-passes : (g : Message) (a : MessageState) (v : ℤ) → g .filter ≡ 0 → passesNow g a v ≡ true
-unfolding passesNow passes rules
-true-passes g a v through = rw through refl
 
 module _ {n : Node} (s : Sound n) (m : ℕ) (l : m < n .layout .message-number) (received : isSent (messageAt (n .layout) m) ≡ false)
     (float : isFloat (messageAt (n .layout) m) ≡ true) (p : ℤ) where

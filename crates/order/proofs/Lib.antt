@@ -30,6 +30,7 @@ pub mod ThereAndBack
 pub mod Floats
 pub mod Counting
 pub mod Endings
+pub mod Old
 pub mod LoadedNodes
 pub mod Example
 pub mod RoundExample

@@ -27,7 +27,7 @@ use Rattle.start.specs.Start.{
   startLayout,
   startState,
 }
-use Rattle.message.specs.Messages.{canHold, passesNow, put, offered}
+use Rattle.message.specs.Messages.{canHold, passesNow, offered}
 use Rattle.own.specs.Own.{chosen, owns, cellsOf}
 use Rattle.node.specs.Calls.{sendAnswer, sendOf, invalidateAnswer, invalidateOf, suppressed, assembleAnswer, assembleOf, consumedOf, consumedAnswer}
 use Rattle.closing.specs.Closing.{came, counts, instances, isReceived}
@@ -71,7 +71,7 @@ unfolding
     startLayout startState startFrames startIndex startMessages startStates startFields
     table selected laidFrame frameByFrame startMessageOrNone startMessage stateOrNone startLaid
     chosen cellsOf owns allOf sendOf sendAnswer invalidateOf invalidateAnswer canHold inRange isWidth least greatest valueOf patternOf passesNow passes rules compared bound
-    offered put assembleOf assembleAnswer suppressed consumedOf consumedAnswer instances counts came
+    offered assembleOf assembleAnswer suppressed consumedOf consumedAnswer instances counts came
 mirror-example p =
     record {
       received = sent-received sender-sound among-sound mirror refl (255 ∷ 255 ∷ []) p (pos 677) refl refl refl refl;

@@ -21,27 +21,30 @@ use Rattle.order.specs.Deliveries.{OneRound}
 use Rattle.order.proofs.Among.{in-eq}
 use Rattle.order.proofs.Kept.{kept-layout}
 
+-- what holds of the state before and, if the answer is 0, of the new one, holds after the call
+pub by-answer : (P : State → Type 0) (n : Node) (a : ℕ) (k : State) → P (n .state) → (a ≡ 0 → P k) → P (outcome a k n .node .state)
+by-answer P n a k before h = by-test P (eqb a 0) (λ t. h (eqb-true a 0 t)) (λ t. before)
+
 module _ (n : Node) (m : ℕ) (not-sent : isSent (messageAt (n .layout) m) ≡ false) where
   other : (i : ℕ) → isSent (messageAt (n .layout) i) ≡ true → m ≡ i → ⊥
   other i sent e = true≢false (sym sent ∙ ap (λ (k : ℕ). isSent (messageAt (n .layout) k)) (sym e) ∙ not-sent)
 
-  by-answer : (a : ℕ) (k : State) → (a ≡ 0 → stateAt k m ≡ stateAt (n .state) m) → stateAt (outcome a k n .node .state) m ≡ stateAt (n .state) m
-  by-answer a k h = by-test (λ (s : State). stateAt s m ≡ stateAt (n .state) m) (eqb a 0) (λ t. h (eqb-true a 0 t)) (λ t. refl)
+  abbrev Stays : State → Type 0
+  Stays k = stateAt k m ≡ stateAt (n .state) m
 
   one-call : (c : Call) → (c ≡ close → ⊥) → stateAt (next n c .state) m ≡ stateAt (n .state) m
   unfolding sendOf invalidateOf assembleOf consumedOf deliverOf
   one-call (send i v) no-close =
-      by-answer (sendAnswer (n .layout) i v) _
+      by-answer Stays n (sendAnswer (n .layout) i v) _ refl
       (λ e. getD-set-other (n .state .messages) i m _ noState (other i (send-access (n .layout) i v e)))
   one-call (invalidate i) no-close =
-      by-answer (invalidateAnswer (n .layout) i) _
+      by-answer Stays n (invalidateAnswer (n .layout) i) _ refl
       (λ e. getD-set-other (n .state .messages) i m _ noState (other i (invalidate-access (n .layout) i e)))
-  one-call (assemble f b) no-close = by-answer (assembleAnswer n f (length b)) _ (λ e. refl)
-  one-call (consumed f) no-close = by-answer (consumedAnswer (n .layout) f) _ (λ e. refl)
+  one-call (assemble f b) no-close = by-answer Stays n (assembleAnswer n f (length b)) _ refl (λ e. refl)
+  one-call (consumed f) no-close = by-answer Stays n (consumedAnswer (n .layout) f) _ refl (λ e. refl)
   one-call (readFlag i p) no-close = refl
   one-call (deliver f valid d) no-close =
-      by-answer (deliverAnswer (n .layout) f (length d)) _
-      (λ e. by-test (λ (s : State). stateAt s m ≡ stateAt (n .state) m) valid (λ t. refl) (λ t. refl))
+      by-answer Stays n (deliverAnswer (n .layout) f (length d)) _ refl (λ e. by-test Stays valid (λ t. refl) (λ t. refl))
   one-call close no-close = absurd (no-close refl)
   one-call (receive i p) no-close = refl
 

@@ -16,7 +16,7 @@ use Rattle.record.specs.declared.Field.{Field as FieldRecord}
 use Rattle.store.specs.declared.Message.{Message}
 use Rattle.store.specs.declared.MessageState.{MessageState}
 use Rattle.store.specs.Node.{Layout, Node, frameAt, messageAt, laidAt, stateAt, dataAt}
-use Rattle.message.specs.Messages.{passesNow, put, filtered, agreedBy, agreedOn, settled}
+use Rattle.message.specs.Messages.{passesNow, filtered, agreedBy, agreedOn, settled}
 use Rattle.message.specs.Fields.{statusPlaces}
 use Rattle.own.specs.declared.Owner.{Owner}
 use Rattle.own.specs.Own.{isIn, cellsOf, fieldsOf}
@@ -116,33 +116,27 @@ record SameClosed (a a′ : MessageState) : Type 0 where
   values : SameValues a a′
   status : a .status ≡ a′ .status
 
-module _ (g g′ : Message) (message : SameMessage g g′) {a a′ : MessageState} (same : SameValues a a′) where
+module _ (g g′ : Message) (message : SameMessage g g′) (a a′ : MessageState) (same : SameValues a a′) where
   passes-alike : (v : ℤ) → passesNow g a v ≡ passesNow g′ a′ v
   unfolding passesNow
-  passes-alike v = rw (message .filter, message .sign, message .x1, message .x2, same .old)
-
-  put-alike : (v : ℤ) → SameValues (put g a v) (put g′ a′ v)
-  unfolding put
-  put-alike v =
-      rw (passes-alike v)
-      (same-test SameValues (passesNow g′ a′ v) (λ t. record { held = refl; old = refl }) (λ t. record { held = same .held; old = refl }))
+  passes-alike v = rw (message .filter, message .sign, message .x1, message .x2, same)
 
   filtered-alike : (v : ℤ) → SameClosed (filtered g a v) (filtered g′ a′ v)
   unfolding filtered
   filtered-alike v =
-      let both = put-alike v in
-      record { values = record { held = both .held; old = both .old }; status = rw (passes-alike v) }
+      rw (passes-alike v)
+      (same-test SameClosed (passesNow g′ a′ v) (λ t. record { values = refl; status = refl }) (λ t. record { values = same; status = refl }))
 
   agreement-alike : (l : List ℤ) → agreedBy g l ≡ agreedBy g′ l
   unfolding agreedBy
   agreement-alike l = rw (message .sign, message .agreement)
 
   agreed-alike : (r : Agreed) → SameClosed (agreedOn g a r) (agreedOn g′ a′ r)
-  agreed-alike NoResult = record { values = record { held = same .held; old = same .old }; status = refl }
+  agreed-alike NoResult = record { values = same; status = refl }
   agreed-alike (Value v) = filtered-alike v
 
   settled-alike : (none : Bool) (l : List ℤ) → SameClosed (settled g a none l) (settled g′ a′ none l)
-  settled-alike none [] = record { values = record { held = same .held; old = same .old }; status = refl }
+  settled-alike none [] = record { values = same; status = refl }
   settled-alike none (v ∷ l) = rw (agreement-alike (v ∷ l)) (agreed-alike (agreedBy g′ (v ∷ l)))
 
 -- ---- two nodes
@@ -156,13 +150,13 @@ module _ {n n′ : Node} (s : Sound n) (s′ : Sound n′) (m m′ : ℕ) (repli
         none-alike s s′ m m′ (message .width) (message .sign) (replicas .fields) (same .fields),
         instances-alike s s′ m m′ (message .width) (message .sign) (replicas .fields) (same .fields),
       )
-      (settled-alike _ _ message (same .values) (noneCame n′ m′) (instances n′ m′))
+      (settled-alike _ _ message (stateAt (n .state) m) (stateAt (n′ .state) m′) (same .values) (noneCame n′ m′) (instances n′ m′))
 
   -- the two show the same
   pub replicas-agree : (p : ℤ) → seenOf (next n close) (receive m p) ≡ seenOf (next n′ close) (receive m′ p)
   replicas-agree p =
       closed-shown s m (replicas .received) p _ refl
-      ∙ rw (closed-alike .status, closed-alike .values .held, replicas .message .sign) (sym (closed-shown s′ m′ (replicas .received′) p _ refl))
+      ∙ rw (closed-alike .status, closed-alike .values, replicas .message .sign) (sym (closed-shown s′ m′ (replicas .received′) p _ refl))
 
   -- and the next closing finds the same values
   pub replicas-values : SameValues (stateAt (next n close .state) m) (stateAt (next n′ close .state) m′)

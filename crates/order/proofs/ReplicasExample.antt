@@ -33,7 +33,7 @@ use Rattle.start.specs.Start.{
   startLayout,
   startState,
 }
-use Rattle.message.specs.Messages.{passesNow, put, agreedBy, filtered}
+use Rattle.message.specs.Messages.{passesNow, agreedBy, filtered}
 use Rattle.message.specs.Fields.{statusPlaces}
 use Rattle.own.specs.Own.{chosen, changed, owns, cellsOf}
 use Rattle.node.specs.Calls.{deliverAnswer, kept, deliverOf, receiveAnswer, receivedPlace}
@@ -75,7 +75,7 @@ unfolding
     bitOf bitAt placeOf frameBit bitPlaces places inFrame placesIn statusPlaces
 came-alike =
     record {
-      values = record { held = refl; old = refl };
+      values = refl;
       fields = (record { frame = refl; bits = λ t. omega arith; status = λ t. omega arith }, tt);
     }
 
@@ -91,7 +91,7 @@ unfolding
     chosen cellsOf owns deliverOf deliverAnswer kept came
     bitOf bitAt placeOf frameBit bitPlaces places inFrame placesIn statusPlaces
     isReceived closeOf forget closeMessages changed closedState instances noneCame counts statusSet valueIn unpacked
-    agreedBy agreed vote oneThat ahead countOf filtered put passesNow passes rules compared bound valueOf patternOf allOf receiveAnswer receivedPlace
+    agreedBy agreed vote oneThat ahead countOf filtered passesNow passes rules compared bound valueOf patternOf allOf receiveAnswer receivedPlace
 alone-shows p = (refl, refl, refl)
 
 -- frames in another order: where the frame of one byte comes first 5 is picked, and where that of two bytes does, 7
@@ -105,7 +105,7 @@ unfolding
     chosen cellsOf owns deliverOf deliverAnswer kept came
     bitOf bitAt placeOf frameBit bitPlaces places inFrame placesIn statusPlaces
     isReceived closeOf forget closeMessages changed closedState instances noneCame counts statusSet valueIn unpacked
-    agreedBy agreed filtered put passesNow passes rules valueOf patternOf allOf receiveAnswer receivedPlace
+    agreedBy agreed filtered passesNow passes rules valueOf patternOf allOf receiveAnswer receivedPlace
 lowest-picked p = (refl, refl)
 
 -- the one shows 677, and so does the other, since they are replicas

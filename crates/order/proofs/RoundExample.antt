@@ -42,7 +42,7 @@ use Rattle.own.specs.declared.Owner.{Owner}
 use Rattle.own.specs.Own.{chosen, changed, owns, cellsOf}
 use Rattle.own.specs.SoundLayout.{messagePlaces, itsStatusPlaces}
 use Rattle.own.proofs.Owners.{fields-named}
-use Rattle.message.specs.Messages.{passesNow, put, agreedBy, filtered}
+use Rattle.message.specs.Messages.{passesNow, agreedBy, filtered}
 use Rattle.node.specs.Calls.{deliverAnswer, kept, deliverOf, receiveAnswer, receivedPlace}
 use Rattle.closing.specs.Closing.{came, statusSet, counts, valueIn, instances, noneCame, closedState, isReceived, closeMessages, forget, closeOf}
 use Rattle.node.specs.Load.{loadOf}
@@ -167,7 +167,7 @@ unfolding startLayout
 same =
     record {
       layout = refl;
-      values = record { held = refl; old = refl };
+      values = refl;
       begins = (none, none);
       ends = (more _ _ _ _ (more _ _ _ _ (more _ _ _ _ (more _ _ _ [] in-none))), more _ _ _ [] in-none);
       fields = λ d mine. let first : d ≡ 0 = omega (arith, fields-named (sound .layout) (Owner.Message 0) d .0 mine .0) in rw first arrival;
@@ -184,7 +184,7 @@ unfolding
     table selected laidFrame frameByFrame startMessageOrNone startMessage stateOrNone startLaid
     chosen changed cellsOf owns allOf deliverOf deliverAnswer kept
     closeOf forget closeMessages closedState isReceived instances noneCame counts came statusSet valueIn
-    agreedBy agreed filtered put passesNow passes rules receiveAnswer receivedPlace
+    agreedBy agreed filtered passesNow passes rules receiveAnswer receivedPlace
     placesIn inFrame places bitPlaces frameBit placeOf bitAt bitOf unpacked valueOf extend isWidth patternOf
 once-shown p = refl
 

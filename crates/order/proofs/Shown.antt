@@ -10,7 +10,7 @@ use borrow.Author.Tests.{lt-ltb, not-true}
 use Rattle.store.specs.declared.Message.{Message}
 use Rattle.store.specs.declared.MessageState.{MessageState}
 use Rattle.store.specs.Node.{Layout, Node, messageCount, isSent, heldValue, messageAt, stateAt}
-use Rattle.message.specs.Messages.{canHold, passesNow, put, filtered}
+use Rattle.message.specs.Messages.{canHold, passesNow, filtered}
 use Rattle.node.specs.Calls.{receiveAnswer, receivedPlace}
 use Rattle.closing.specs.Closing.{closedState, isReceived, closeOf}
 use Rattle.own.specs.SoundLayout.{SoundLayout}
@@ -46,11 +46,11 @@ module _ {n : Node} (s : Sound n) (m : ℕ) (received : isReceived (n .layout) m
     -- a value that it can hold and its filter passes
     pub passed-shown : (v : ℤ) → canHold its v ≡ true → passesNow its before v ≡ true → closedState n m before ≡ filtered its before v
         → seenOf (next n close) (receive m p) ≡ sees 0 (value v)
-    unfolding filtered put
+    unfolding filtered
     passed-shown v fits passes e = rw (passes, pattern-held its v fits) at (closed-shown (filtered its before v) e)
 
     -- and one that its filter does not pass
     pub stopped-shown : (v : ℤ) → passesNow its before v ≡ false → closedState n m before ≡ filtered its before v
         → seenOf (next n close) (receive m p) ≡ sees 21 (value p)
-    unfolding filtered put
+    unfolding filtered
     stopped-shown v fails e = rw fails at (closed-shown (filtered its before v) e)

@@ -141,7 +141,6 @@ pub record FitsState (s : MessageState) : Type 0 where
   pub valid : s .valid < 256
   pub status : s .status < 256
   pub held : s .held < 2 ^ 32
-  pub old : s .old < 2 ^ 32
 
 pub record FitsStage (t : Stage) : Type 0 where
   pub code : codeOf t < 256
@@ -163,9 +162,9 @@ state-there : (s : MessageState) → FitsState s → AllBytes (messageStateBytes
 unfolding messageStateBytes
 state-there s h = record { each = omega arith }
 
-state-back : (s : MessageState) → AllBytes (messageStateBytes s) → (s .held < 2 ^ 32) × (s .old < 2 ^ 32) → FitsState s
+state-back : (s : MessageState) → AllBytes (messageStateBytes s) → s .held < 2 ^ 32 → FitsState s
 unfolding messageStateBytes
-state-back s b words = record { valid = b .each .0; status = b .each .1 .0; held = words .0; old = words .1 }
+state-back s b word = record { valid = b .each .0; status = b .each .1 .0; held = word }
 
 stage-there : (t : Stage) → FitsStage t → AllBytes (stageBytes t)
 unfolding stageBytes
@@ -223,7 +222,7 @@ memory-stored b memory =
       state =
           record {
             deliveries = region-of deliveryBytes delivery-back noDelivery (shaped .deliveries) deliveries (shaped .bytes);
-            messages = region-of messageStateBytes state-back noState (shaped .states) states (shaped .values);
+            messages = region-of messageStateBytes state-back noState (shaped .states) states (shaped .held);
             stages = region-of stageBytes stage-back noStage (shaped .stages) stages (shaped .codes);
           };
     }
@@ -240,7 +239,7 @@ module _ {n : Node} (s : Stored n) where
         deliveries = s .state .deliveries .all;
         bytes = λ f h. cell-at noDelivery (s .state .deliveries) f h .room;
         states = s .state .messages .all;
-        values = λ m h. let v = cell-at noState (s .state .messages) m h in (v .held, v .old);
+        held = λ m h. cell-at noState (s .state .messages) m h .held;
         stages = s .state .stages .all;
         codes = λ d h. cell-at noStage (s .state .stages) d h .stored;
       }

@@ -12,6 +12,7 @@ use lib.IntN.{ℤ}
 use lib.ListN.{length, take, drop, replicate, length-take}
 use lib.Seq.{length-paste}
 use Rattle.whole.specs.Whole.{Bytes}
+use Rattle.packing.specs.Values.{patternOf}
 use Rattle.packing.proofs.Values.{pattern-below}
 use Rattle.agreement.specs.declared.Agreed.{Agreed}
 use Rattle.agreement.specs.declared.Agreed.the-variants.{Value, NoResult}
@@ -19,11 +20,11 @@ use Rattle.store.specs.declared.Stage.{Stage}
 use Rattle.store.specs.declared.Stage.the-variants.{Waiting, Loaded, Gone}
 use Rattle.store.specs.declared.Message.{Message}
 use Rattle.store.specs.declared.MessageState.{MessageState}
-use Rattle.store.specs.Node.{Layout, Delivery, Node, noDelivery, withStatus, withValid, nodeOf, bytesOf}
+use Rattle.store.specs.Node.{Layout, Delivery, Node, noDelivery, withStatus, withValid, withHeld, nodeOf, bytesOf}
 use Rattle.store.proofs.Parts.{bytes-drop, bytes-take}
 use Rattle.store.proofs.RoundTrip.{bytes-node}
 use Rattle.message.specs.declared.Change.{Change}
-use Rattle.message.specs.Messages.{passesNow, put, offered, filtered, agreedBy, agreedOn, settled}
+use Rattle.message.specs.Messages.{passesNow, offered, filtered, agreedBy, agreedOn, settled}
 use Rattle.message.specs.Fields.{stageAfter}
 use Rattle.own.specs.Own.{changed}
 use Rattle.node.specs.Calls.{Outcome, left, kept}
@@ -57,27 +58,25 @@ module _ {A : Type 0} (P : A → Type 0) where
 -- ---- the state of a message
 
 valid-fits : (k : ℕ) {s : MessageState} → k < 256 → FitsState s → FitsState (withValid k s)
-valid-fits k h s = record { valid = h; status = s .status; held = s .held; old = s .old }
+valid-fits k h s = record { valid = h; status = s .status; held = s .held }
 
 status-fits : (k : ℕ) {s : MessageState} → k < 256 → FitsState s → FitsState (withStatus k s)
-status-fits k h s = record { valid = s .valid; status = h; held = s .held; old = s .old }
+status-fits k h s = record { valid = s .valid; status = h; held = s .held }
 
 module _ (g : Message) {s : MessageState} (h : FitsState s) where
-  put-fits : (v : ℤ) → FitsState (put g s v)
-  unfolding put
-  put-fits v =
-      let word = pattern-below 32 v in
-      by-test FitsState (passesNow g s v) (λ t. record { valid = h .valid; status = h .status; held = word; old = word })
-      (λ t. record { valid = h .valid; status = h .status; held = h .held; old = word })
+  holding-fits : (v : ℤ) → FitsState (withHeld (patternOf 32 v) s)
+  holding-fits v = record { valid = h .valid; status = h .status; held = pattern-below 32 v }
 
   offered-fits : (v : ℤ) → FitsState (offered g s v)
   unfolding offered
-  offered-fits v = valid-fits _ (by-test (λ k. k < 256) (passesNow g s v) (λ t. omega arith) (λ t. omega arith)) (put-fits v)
+  offered-fits v =
+      by-test FitsState (passesNow g s v) (λ t. valid-fits 1 (omega arith) (holding-fits v)) (λ t. valid-fits 0 (omega arith) h)
 
   agreed-fits : (a : Agreed) → FitsState (agreedOn g s a)
   unfolding filtered
   agreed-fits NoResult = status-fits 20 (omega arith) h
-  agreed-fits (Value v) = status-fits _ (by-test (λ k. k < 256) (passesNow g s v) (λ t. omega arith) (λ t. omega arith)) (put-fits v)
+  agreed-fits (Value v) =
+      by-test FitsState (passesNow g s v) (λ t. status-fits 0 (omega arith) (holding-fits v)) (λ t. status-fits 21 (omega arith) h)
 
   settled-fits : (none : Bool) (l : List ℤ) → FitsState (settled g s none l)
   settled-fits none [] = status-fits _ (by-test (λ k. k < 256) none (λ t. omega arith) (λ t. omega arith)) h

@@ -133,9 +133,8 @@ module _ (s : List ℕ) (y : Bytes s) where
           valid = by-test (λ k. k < 256) (eqb bit 0) (λ u. omega arith) (λ u. omega arith);
           status = omega arith;
           held = word (F + m) 16;
-          old = word (F + m) 16;
         })
-        (λ t. record { valid = omega arith; status = omega arith; held = omega arith; old = omega arith })
+        (λ t. record { valid = omega arith; status = omega arith; held = omega arith })
 
     listed-frames : (f : ℕ) → Every (λ d. d < 256) (frameByFrame s (F + M) D f)
     unfolding frameByFrame

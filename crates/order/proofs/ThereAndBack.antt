@@ -13,12 +13,12 @@ use lib.IntN.{ℤ}
 use lib.ListN.{length}
 use lib.Seq.{getD-set-same, getD-set-other}
 use borrow.Author.Tests.{lt-ltb, eq-eqb, ne-eqb, not-true}
-use Rattle.filter.specs.Filter.{rules, passes}
 use Rattle.record.specs.declared.Field.{Field as FieldRecord}
 use Rattle.store.specs.declared.Message.{Message}
 use Rattle.store.specs.Node.{Delivery, Node, frameCount, messageCount, hasStatusBit, isSentFrame, heldValue, noDelivery, noState}
 use Rattle.store.specs.Node.{frameAt, messageAt, deliveryAt, stateAt, dataAt, withDelivery, nodeWith}
-use Rattle.message.specs.Messages.{passesNow, put, offered, invalidated}
+use Rattle.message.specs.Messages.{passesNow, offered, invalidated}
+use Rattle.message.proofs.Passed.{true-passes}
 use Rattle.own.specs.declared.Owner.{Owner}
 use Rattle.own.specs.Own.{fieldsOf}
 use Rattle.own.specs.SoundLayout.{SoundField}
@@ -152,19 +152,19 @@ module _ {s : Node} (sender : Sound s) (m : ℕ) where
 
   pub passed-message : (v : ℤ) → answerOf s (send m v) ≡ 0 → passesNow g (stateAt (s .state) m) v ≡ true
       → (goesValid g (stateAt (next s (send m v) .state) m) ≡ true) × (heldValue g (stateAt (next s (send m v) .state) m) ≡ v)
-  unfolding sendOf offered put
+  unfolding sendOf offered
   passed-message v ok passes = rw (sent-state v ok, passes) (or-true (not (hasStatusBit g)), pattern-held g v (send-tests (s .layout) m v ok .1))
 
   -- a filter that does not pass is not True, and so the message, which is sent, has a status bit
   filtered-bit : (v : ℤ) → answerOf s (send m v) ≡ 0 → passesNow g (stateAt (s .state) m) v ≡ false → hasStatusBit g ≡ true
-  unfolding sendOf passesNow passes rules
+  unfolding sendOf
   filtered-bit v ok fails = go (ℕ-discrete (g .statusbit) 0)
     where
       go : Dec (g .statusbit ≡ 0) → hasStatusBit g ≡ true
       go (yes none) =
           let sent = send-access (s .layout) m v ok in
           let filter : g .filter ≡ 0 = sender .layout .messages m (send-tests (s .layout) m v ok .0) .heard sent none in
-          absurd (true≢false (rw filter at fails))
+          absurd (true≢false (sym (true-passes g (stateAt (s .state) m) v filter) ∙ fails))
       go (no some) = rw (ne-eqb (g .statusbit) 0 some) refl
 
   filtered-message : (v : ℤ) → answerOf s (send m v) ≡ 0 → passesNow g (stateAt (s .state) m) v ≡ false

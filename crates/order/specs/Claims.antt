@@ -41,6 +41,7 @@ use Rattle.order.specs.Deliveries.{DeliveredWith, NoneDelivered, LastDel
 use Rattle.order.specs.Mirror.{Mirrors, goesValid, afterRound}
 use Rattle.order.specs.LoadedNodes.{EachLoaded, PassedOn, ReplicasShow}
 use Rattle.order.specs.Floats.{meanShown}
+use Rattle.order.specs.Old.{ComparesWith}
 use Rattle.order.specs.Counting.{CountingField, carriedValue, InFrameOrder, TakesPart, HasLowestFrame}
 
 pub record Claims : Type 0 where
@@ -106,9 +107,11 @@ pub record Claims : Type 0 where
       → (v : ℤ) → agreedBy (messageAt (n .layout) m) (instances n m) ≡ Value v
       → passesNow (messageAt (n .layout) m) (stateAt (n .state) m) v ≡ false
       → (p : ℤ) → seenOf (next n close) (receive m p) ≡ sees 21 (value p)
-  -- In these four the held value stays: it does wherever a receive after the closing does not answer 0
+  -- In these four the held value stays: wherever a receive after the closing does not answer 0, that status is all that changes of the message
   pub not-held : (n : Node) → Sound n → (m : ℕ) → isReceived (n .layout) m ≡ true
-      → (p : ℤ) → (answerOf (next n close) (receive m p) ≡ 0 → ⊥) → stateAt (next n close .state) m .held ≡ stateAt (n .state) m .held
+      → (p : ℤ) → (answerOf (next n close) (receive m p) ≡ 0 → ⊥)
+      → stateAt (next n close .state) m
+      ≡ record { valid = stateAt (n .state) m .valid; status = answerOf (next n close) (receive m p); held = stateAt (n .state) m .held }
   -- Floats. Of a float message's counting instances those that are not set aside agree, in any node: there never are more than eight
   pub floats-agree : (n : Node) (m : ℕ) → isFloat (messageAt (n .layout) m) ≡ true
       → agreedBy (messageAt (n .layout) m) (instances n m) ≡ leftAgreed (messageAt (n .layout) m .agreement) (leftOf (instances n m))
@@ -185,10 +188,17 @@ pub record Claims : Type 0 where
   pub sent-holds : (n : Node) → Sound n → (m : ℕ) (v : ℤ) → answerOf n (send m v) ≡ 0
       → passesNow (messageAt (n .layout) m) (stateAt (n .state) m) v ≡ true
       → (heldValue (messageAt (n .layout) m) (stateAt (next n (send m v) .state) m) ≡ v) × (isValid (stateAt (next n (send m v) .state) m) ≡ true)
-  -- if not, the held value stays and the message is invalid
+  -- if not, the held value stays and the message is invalid, and that is all that changes of its state
   pub filtered-holds : (n : Node) (m : ℕ) (v : ℤ) → answerOf n (send m v) ≡ 0
       → passesNow (messageAt (n .layout) m) (stateAt (n .state) m) v ≡ false
-      → (stateAt (next n (send m v) .state) m .held ≡ stateAt (n .state) m .held) × (isValid (stateAt (next n (send m v) .state) m) ≡ false)
+      → stateAt (next n (send m v) .state) m ≡ record { valid = 0; status = stateAt (n .state) m .status; held = stateAt (n .state) m .held }
+  -- and from one send that answers 0 to the next it stays: no other call changes what a sent message holds
+  pub sent-kept : (n : Node) → Sound n → (m : ℕ) → isSent (messageAt (n .layout) m) ≡ true → (l : List Call) → (Sent n m l → ⊥)
+      → stateAt (final n l .state) m .held ≡ stateAt (n .state) m .held
+  -- Filters. Old is the value that the message holds, sent or received
+  pub old-held : (n : Node) (m : ℕ) → ComparesWith n m (heldValue (messageAt (n .layout) m) (stateAt (n .state) m))
+  -- so where a receive gives v, the next value is compared with v
+  pub old-received : (n : Node) (m : ℕ) (v p : ℤ) → seenOf n (receive m p) ≡ sees 0 (value v) → ComparesWith n m v
   -- There and back. A value sent, passed by the sender's filter, assembled, and delivered to a node whose field mirrors the sender's and in whose round
   -- no instance of the message counts yet, is received as sent if the receiver's filter passes it, whatever its agreement; of a float that is any
   -- finite pattern, bit for bit

@@ -6,6 +6,7 @@ pub mod Replicas
 pub mod Flag
 pub mod Mirror
 pub mod Floats
+pub mod Old
 pub mod Deliveries
 pub mod Counting
 pub mod Example

@@ -17,10 +17,9 @@ use Rattle.own.specs.SoundLayout.{messagePlaces, itsStatusPlaces}
 
 -- ---- own bits alone
 
--- the message's earlier values are the same: the one it holds, and the one last put to its filter
-pub record SameValues (s s′ : MessageState) : Type 0 where
-  pub held : s .held ≡ s′ .held
-  pub old : s .old ≡ s′ .old
+-- the message's earlier values are the same: of these it keeps one, which it holds
+abbrev pub SameValues : MessageState → MessageState → Type 0
+SameValues s s′ = s .held ≡ s′ .held
 
 -- of a field x in n and a field x′ in n′: the frames of both came validly or neither did, and if they came, both have the same field bits and the same
 -- status bit there

@@ -114,10 +114,6 @@ word-encoded c k l y =
     let fourth : getD c (k + 3) 0 % 256 ≡ getD c (k + 3) 0 = omega (arith, y (k + 3)) in
     rw (first .0, first .1, second .0, second .1, third .0, third .1, fourth) refl
 
--- two words, one after the other
-words-encoded : (c : List ℕ) (k : ℕ) → Bytes c → wordThen (wordIn c k) (wordThen (wordIn c (k + 4)) []) ≡ bytesThen c k (bytesThen c (k + 4) [])
-words-encoded c k y = word-encoded c k _ y ∙ ap (bytesThen c k) (word-encoded c (k + 4) [] y)
-
 word-decoded : (x : ℕ) → x < 2 ^ 32 → wordIn (wordThen x []) 0 ≡ x
 word-decoded x h = omega arith
 
@@ -129,7 +125,7 @@ frame-encoded c h y = bytes-all c 6 h
 
 pub message-encoded : (c : List ℕ) → length c ≡ 16 → Bytes c → messageBytes (messageOf c) ≡ c
 unfolding messageBytes messageOf
-message-encoded c h y = ap (bytesFrom c 0 8) (words-encoded c 8 y) ∙ bytes-all c 16 h
+message-encoded c h y = ap (bytesFrom c 0 8) (word-encoded c 8 _ y ∙ ap (bytesThen c 8) (word-encoded c 12 [] y)) ∙ bytes-all c 16 h
 
 pub laid-encoded : (c : List ℕ) → length c ≡ 5 → Bytes c → laidBytes (laidOf c) ≡ c
 unfolding laidBytes laidOf
@@ -147,7 +143,7 @@ delivery-encoded c h y =
 
 pub state-encoded : (c : List ℕ) → length c ≡ stateSize → Bytes c → messageStateBytes (messageStateOf c) ≡ c
 unfolding messageStateBytes messageStateOf
-state-encoded c h y = ap (bytesFrom c 0 2) (words-encoded c 2 y) ∙ bytes-all c stateSize h
+state-encoded c h y = ap (bytesFrom c 0 2) (word-encoded c 2 [] y) ∙ bytes-all c stateSize h
 
 code-stage : (k : ℕ) → codeOf (stageOf k) ≡ k
 code-stage zero = refl
@@ -180,9 +176,9 @@ pub delivery-decoded : (y : Delivery) → length (y .bytes) ≡ 32 → deliveryO
 unfolding deliveryOf deliveryBytes
 delivery-decoded y e = ap (λ (l : List ℕ). record { delivered = y .delivered; bytes = l }) (take-at (y .bytes) (replicate 32 0) 32 e)
 
-pub state-decoded : (s : MessageState) → s .held < 2 ^ 32 → s .old < 2 ^ 32 → messageStateOf (messageStateBytes s) ≡ s
+pub state-decoded : (s : MessageState) → s .held < 2 ^ 32 → messageStateOf (messageStateBytes s) ≡ s
 unfolding messageStateOf messageStateBytes
-state-decoded s held old = rw (word-decoded (s .held) held, word-decoded (s .old) old) refl
+state-decoded s held = rw (word-decoded (s .held) held) refl
 
 pub stage-decoded : (t : Stage) → StoredStage t → stageIn (stageBytes t) ≡ t
 unfolding stageIn stageBytes
@@ -193,9 +189,9 @@ pub words-fit : (c : List ℕ) → Bytes c → (messageOf c .x1 < 2 ^ 32) × (me
 unfolding messageOf
 words-fit c y = (word-below c 8 y, word-below c 12 y)
 
-pub values-fit : (c : List ℕ) → Bytes c → (messageStateOf c .held < 2 ^ 32) × (messageStateOf c .old < 2 ^ 32)
+pub held-fits : (c : List ℕ) → Bytes c → messageStateOf c .held < 2 ^ 32
 unfolding messageStateOf
-values-fit c y = (word-below c 2 y, word-below c 6 y)
+held-fits c y = word-below c 2 y
 
 pub stage-fits : (c : List ℕ) → StoredStage (stageIn c)
 unfolding stageIn

@@ -18,6 +18,6 @@ use Rattle.store.specs.Node.{
 }
 use Rattle.store.specs.Writing.{emptyLayout, emptyState, emptyNode}
 
-pub nothing-read : nodeOf (replicate 2851 0 ++ replicate 128 2) ≡ emptyNode
+pub nothing-read : nodeOf (replicate 2723 0 ++ replicate 128 2) ≡ emptyNode
 unfolding layoutOf stateOf uncells frameOf messageOf laidOf listedOf deliveryOf messageStateOf stageIn emptyLayout emptyState
 nothing-read = refl

@@ -41,7 +41,7 @@ use Rattle.store.specs.Node.{
 }
 use Rattle.store.proofs.Parts.{length-part, bytes-part}
 use Rattle.store.proofs.Regions.{region, length-region, cell-read}
-use Rattle.store.proofs.Cells.{words-fit, values-fit, stage-fits}
+use Rattle.store.proofs.Cells.{words-fit, held-fits, stage-fits}
 use Rattle.store.proofs.Places.{delivery-read}
 
 -- what holds of each cell, and of what stands past the last, holds wherever the region is read
@@ -93,11 +93,11 @@ module _ (b : List ℕ) where
         anywhere (λ (g : Message). (g .x1 < 2 ^ 32) × (g .x2 < 2 ^ 32)) messageOf 16 32 messagesAt b noMessage m (omega arith, omega arith)
         (words-fit (part b (messagesAt + m * 16) 16) (bytes-part b (messagesAt + m * 16) 16 y))
 
-    values-below : (m : ℕ) → (stateAt (stateOf b) m .held < 2 ^ 32) × (stateAt (stateOf b) m .old < 2 ^ 32)
+    held-below : (m : ℕ) → stateAt (stateOf b) m .held < 2 ^ 32
     unfolding stateOf
-    values-below m =
-        anywhere (λ (s : MessageState). (s .held < 2 ^ 32) × (s .old < 2 ^ 32)) messageStateOf stateSize 32 statesAt b noState m (omega arith, omega arith)
-        (values-fit (part b (statesAt + m * stateSize) stateSize) (bytes-part b (statesAt + m * stateSize) stateSize y))
+    held-below m =
+        anywhere (λ (s : MessageState). s .held < 2 ^ 32) messageStateOf stateSize 32 statesAt b noState m (omega arith)
+        (held-fits (part b (statesAt + m * stateSize) stateSize) (bytes-part b (statesAt + m * stateSize) stateSize y))
 
     pub node-shaped : length b ≡ nodeSize → Shaped (nodeOf b)
     unfolding deliveryOf
@@ -114,7 +114,7 @@ module _ (b : List ℕ) where
               let cell : length (part b (deliveriesAt + f * 33) 33) ≡ 33 = length-part b (deliveriesAt + f * 33) 33 (omega arith) in
               rw (delivery-read b f h, length-drop) (omega arith);
           states = states-length;
-          values = λ m h. values-below m;
+          held = λ m h. held-below m;
           stages = stages-length;
           codes = λ d h. stage-stored d;
         }

@@ -148,7 +148,7 @@ node-bytes n shaped =
     (λ f h. delivery-decoded _ (shaped .bytes f h)) in
     let states =
     region-cells messageStateBytes stateSize state-size messageStateOf 32 statesAt b (s .messages) R7 noState (deliveries .1) (shaped .states)
-    (λ m h. state-decoded _ (shaped .values m h .0) (shaped .values m h .1)) in
+    (λ m h. state-decoded _ (shaped .held m h)) in
     let stages =
     region-cells stageBytes 1 stage-size stageIn 128 stagesAt b (s .stages) [] noStage (states .1 ∙ sym (append-nil R7)) (shaped .stages)
     (λ d h. stage-decoded _ (shaped .codes d h)) in

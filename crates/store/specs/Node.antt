@@ -90,12 +90,9 @@ isDelivered y = not (eqb (y .delivered) 0)
 abbrev pub isValid : MessageState → Bool
 isValid s = not (eqb (s .valid) 0)
 
--- a state has values as their 32-bit patterns: the one that message g holds, and the one last put to its filter
+-- the value that message g holds: a state has it as its 32-bit pattern
 abbrev pub heldValue : Message → MessageState → ℤ
 heldValue g s = valueOf (isSigned g) 32 (s .held)
-
-abbrev pub oldValue : Message → MessageState → ℤ
-oldValue g s = valueOf (isSigned g) 32 (s .old)
 
 -- a byte other than 0 and 1 is a stage too, gone, so that every byte is one
 abbrev pub stageOf : ℕ → Stage
@@ -169,12 +166,12 @@ deliveryOf c = record { delivered = getD c 0 0; bytes = drop 1 c }
 unfoldable pub deliveryBytes : Delivery → List ℕ
 deliveryBytes y = y .delivered ∷ take 32 (y .bytes ++ replicate 32 0)
 
--- a message's state: 2 bytes and 2 words
+-- a message's state: 2 bytes and a word
 unfoldable pub messageStateOf : List ℕ → MessageState
-messageStateOf c = record { valid = getD c 0 0; status = getD c 1 0; held = wordIn c 2; old = wordIn c 6 }
+messageStateOf c = record { valid = getD c 0 0; status = getD c 1 0; held = wordIn c 2 }
 
 unfoldable pub messageStateBytes : MessageState → List ℕ
-messageStateBytes s = s .valid ∷ s .status ∷ wordThen (s .held) (wordThen (s .old) [])
+messageStateBytes s = s .valid ∷ s .status ∷ wordThen (s .held) []
 
 -- a field's stage: 1 byte
 unfoldable pub stageIn : List ℕ → Stage
@@ -183,7 +180,7 @@ stageIn c = stageOf (getD c 0 0)
 unfoldable pub stageBytes : Stage → List ℕ
 stageBytes t = codeOf t ∷ []
 
--- ---- the memory: 3 + 32 * 6 + 32 * 16 + 128 * 5 + 128 bytes of layout, then 32 * 33 + 32 * 10 + 128 of state
+-- ---- the memory: 3 + 32 * 6 + 32 * 16 + 128 * 5 + 128 bytes of layout, then 32 * 33 + 32 * 6 + 128 of state
 
 abbrev pub framesAt : ℕ
 framesAt = 3
@@ -207,7 +204,7 @@ abbrev pub statesAt : ℕ
 statesAt = 2531
 
 abbrev pub stateSize : ℕ
-stateSize = 10
+stateSize = 6
 
 abbrev pub stagesAt : ℕ
 stagesAt = statesAt + 32 * stateSize
@@ -272,7 +269,7 @@ abbrev pub noDelivery : Delivery
 noDelivery = record { delivered = 0; bytes = replicate 32 0 }
 
 abbrev pub noState : MessageState
-noState = record { valid = 0; status = 0; held = 0; old = 0 }
+noState = record { valid = 0; status = 0; held = 0 }
 
 abbrev pub noStage : Stage
 noStage = Gone 2
@@ -319,18 +316,15 @@ dataAt n f = take (frameAt (n .layout) f .length) (deliveryAt (n .state) f .byte
 
 -- ---- changes
 
--- a message's state with another validity, status, held and old value
+-- a message's state with another validity, status and held value
 abbrev pub withValid : ℕ → MessageState → MessageState
-withValid k s = record { valid = k; status = s .status; held = s .held; old = s .old }
+withValid k s = record { valid = k; status = s .status; held = s .held }
 
 abbrev pub withStatus : ℕ → MessageState → MessageState
-withStatus k s = record { valid = s .valid; status = k; held = s .held; old = s .old }
+withStatus k s = record { valid = s .valid; status = k; held = s .held }
 
 abbrev pub withHeld : ℕ → MessageState → MessageState
-withHeld x s = record { valid = s .valid; status = s .status; held = x; old = s .old }
-
-abbrev pub withOld : ℕ → MessageState → MessageState
-withOld x s = record { valid = s .valid; status = s .status; held = s .held; old = x }
+withHeld x s = record { valid = s .valid; status = s .status; held = x }
 
 -- a delivery with k for whether it came this round, and one with other data over its own
 abbrev pub marked : ℕ → Delivery → Delivery
@@ -378,6 +372,6 @@ pub record Shaped (n : Node) : Type 0 where
   pub deliveries : length (n .state .deliveries) ≡ 32
   pub bytes : (f : ℕ) → f < 32 → length (deliveryAt (n .state) f .bytes) ≡ 32
   pub states : length (n .state .messages) ≡ 32
-  pub values : (m : ℕ) → m < 32 → (stateAt (n .state) m .held < 2 ^ 32) × (stateAt (n .state) m .old < 2 ^ 32)
+  pub held : (m : ℕ) → m < 32 → stateAt (n .state) m .held < 2 ^ 32
   pub stages : length (n .state .stages) ≡ 128
   pub codes : (d : ℕ) → d < 128 → StoredStage (stageAt (n .state) d)

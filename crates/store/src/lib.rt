@@ -77,12 +77,12 @@ pub struct Message {
 
 // ---- what calls change
 
-// A message's validity, its status, and the patterns of the value that it holds and of the one last put to its filter.
+// A message's validity, the pattern of the value that it holds, and its status. With the word in the middle they are more than eight bytes, and are not
+// packed into one register at each call.
 pub struct MessageState {
     pub valid: u8,
-    pub status: u8,
     pub held: u32,
-    pub old: u32,
+    pub status: u8,
 }
 
 // A sent field is waiting, loaded or gone; a gone one keeps its byte, so that every byte is a stage.
@@ -206,25 +206,23 @@ fn write_laid(c: &mut [u8], x: record::Field)
 }
 
 fn read_state(c: &[u8]) -> MessageState
-    requires { ⌜ length (now c) ≡ 10 ⌝ }
+    requires { ⌜ length (now c) ≡ 6 ⌝ }
     ensures { λ r. ⌜ r ≡ messageStateOf (now (c .entry)) ⌝ }
 {
     MessageState {
         valid: c[0],
         status: c[1],
         held: word(c, 2),
-        old: word(c, 6),
     }
 }
 
 fn write_state(c: &mut [u8], s: MessageState)
-    requires { ⌜ length (now c) ≡ 10 ⌝ }
+    requires { ⌜ length (now c) ≡ 6 ⌝ }
     ensures { λ _. ⌜ now (c .exit) ≡ messageStateBytes s ⌝ }
 {
     c[0] = s.valid;
     c[1] = s.status;
     write_word(&mut c[2..6], s.held);
-    write_word(&mut c[6..10], s.old);
 }
 
 fn stage_of(k: u8) -> Stage
@@ -275,7 +273,6 @@ pub fn no_state() -> MessageState
         valid: 0,
         status: 0,
         held: 0,
-        old: 0,
     }
 }
 
@@ -406,8 +403,8 @@ pub fn state_at(node: &[u8], m: usize) -> MessageState
     requires { ⌜ (m < 32) × (length (now node) ≡ nodeSize) ⌝ }
     ensures { λ r. ⌜ r ≡ stateAt (stateOf (now (node .entry))) m ⌝ }
 {
-    let at = 2531 + m * 10;
-    let end = at + 10;
+    let at = 2531 + m * 6;
+    let end = at + 6;
     read_state(&node[at..end])
 }
 
@@ -423,7 +420,7 @@ pub fn field_at(node: &[u8], d: usize) -> Field
         start: x.start,
         status: x.status,
         place: x.place,
-        stage: stage_of(node[2851 + d]),
+        stage: stage_of(node[2723 + d]),
     }
 }
 
@@ -477,8 +474,8 @@ pub fn put_state(node: &mut [u8], m: usize, s: MessageState)
     requires { ⌜ (m < 32) × (length (now node) ≡ nodeSize) ⌝ }
     ensures { λ _. ⌜ nodeOf (now (node .exit)) ≡ nodeWith (nodeOf (now (node .entry))) (withState (stateOf (now (node .entry))) m s) ⌝ }
 {
-    let at = 2531 + m * 10;
-    let end = at + 10;
+    let at = 2531 + m * 6;
+    let end = at + 6;
     write_state(&mut node[at..end], s);
 }
 
@@ -486,7 +483,7 @@ pub fn put_stage(node: &mut [u8], d: usize, s: Stage)
     requires { ⌜ (d < 128) × (StoredStage s) × (length (now node) ≡ nodeSize) ⌝ }
     ensures { λ _. ⌜ nodeOf (now (node .exit)) ≡ nodeWith (nodeOf (now (node .entry))) (withStage (stateOf (now (node .entry))) d s) ⌝ }
 {
-    node[2851 + d] = code_of(s);
+    node[2723 + d] = code_of(s);
 }
 
 // ---- writing the layout
@@ -496,8 +493,8 @@ pub fn clear(node: &mut [u8])
     requires { ⌜ length (now node) ≡ nodeSize ⌝ }
     ensures { λ _. ⌜ nodeOf (now (node .exit)) ≡ emptyNode ⌝ }
 {
-    fill(&mut node[0..2851], 0);
-    fill(&mut node[2851..2979], 2);
+    fill(&mut node[0..2723], 0);
+    fill(&mut node[2723..2851], 2);
 }
 
 pub fn put_counts(node: &mut [u8], frames: u8, messages: u8, fields: u8)

@@ -1,11 +1,11 @@
 -- `message::filtered_state` meets its contract: status 0 if the value passed, and 21 if not. Assumes nothing.
-use mathlib.Core.Path.{_≡_, refl, sym, _∙_}
+use mathlib.Core.Path.{_≡_, _∙_}
 use mathlib.Core.Logic.{inl, inr, ⊎-elim}
 use mir.Syntax.{w64}
 use mir.Val.{toZ, ofZ}
 use mir.ValLaws.{toZ-ofZ}
 use borrow.Author.Needs.{needs}
-use Rattle.message.specs.Messages.{passesNow, put, filtered}
+use Rattle.message.specs.Messages.{passesNow, filtered}
 use Rattle.message.proofs.Passed.{decided}
 use Rattle.message.proofs.filtered_state.Statement.{statement}
 use Rattle.message.proofs.filtered_state.Tie as tie
@@ -16,14 +16,14 @@ value-of-requires c κs = search needs
 passes-requires : tie.Need-passes-requires
 passes-requires c κs = search needs
 
-put-requires : tie.Need-put-requires
-put-requires c κs = search needs
+held-if-requires : tie.Need-held-if-requires
+held-if-requires c κs = search needs
 
 -- what is passed on as its bits is read back, since it fits
 back : (c : tie.Joined1) → toZ w64 (ofZ w64 (c .before .before .args .agreed)) ≡ c .before .before .args .agreed
 back c = toZ-ofZ w64 (c .before .before .args .agreed) (c .before .before .fits .agreed)
 
-asked : (c : tie.Joined1) → let a = c .before .before .args in c .if1 .passed ≡ passesNow (a .g) (a .s) (a .agreed)
+asked : (c : tie.Joined1) → let a = c .before .before .args in passesNow (a .g) (a .s) (a .agreed) ≡ c .if1 .passed
 asked c =
     decided _ _ _
     (⊎-elim
@@ -33,17 +33,17 @@ asked c =
     (λ w. inr (w .0 .left, w .1))
     (c .if1 .came))
 
-returns : tie.Need-returns
-unfolding put filtered
-returns c =
+returns-passed : tie.Need-returns
+unfolding filtered
+returns-passed c =
     let join = c .before .before in
-    rw (c .before .put .ensures, back join, c .if2 .taken, sym (asked join) ∙ c .if2 .taken) refl
+    simp (asked join, c .if2 .taken, c .before .held-if .ensures, back join)
 
-returns-2 : tie.Need-returns-2
-unfolding put filtered
-returns-2 c =
+returns-stopped : tie.Need-returns-2
+unfolding filtered
+returns-stopped c =
     let join = c .before .before in
-    rw (c .before .put .ensures, back join, c .if2 .left, sym (asked join) ∙ c .if2 .left) refl
+    simp (asked join, c .if2 .left, c .before .held-if .ensures)
 
 pub filtered-state-spec : {M : Type 1} → statement M
-filtered-state-spec = tie.close (tie.spec value-of-requires passes-requires put-requires returns returns-2)
+filtered-state-spec = tie.close (tie.spec value-of-requires passes-requires held-if-requires returns-passed returns-stopped)

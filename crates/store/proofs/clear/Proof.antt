@@ -16,11 +16,11 @@ use Rattle.store.proofs.clear.Statement.{statement}
 use Rattle.store.proofs.clear.Tie as tie
 
 -- the two parts, one after the other
-both : (b x y : List ℕ) → length b ≡ nodeSize → length x ≡ 2851 → length y ≡ 128 → overwritten (overwritten b 0 2851 x) 2851 128 y ≡ x ++ y
+both : (b x y : List ℕ) → length b ≡ nodeSize → length x ≡ 2723 → length y ≡ 128 → overwritten (overwritten b 0 2723 x) 2723 128 y ≡ x ++ y
 both b x y size first second =
-    let all : List ℕ = x ++ drop 2851 b in
+    let all : List ℕ = x ++ drop 2723 b in
     let whole : length all ≡ nodeSize = rw (length-append, length-drop) (omega arith) in
-    ap₂ (λ (s t : List ℕ). s ++ (y ++ t)) (take-at x (drop 2851 b) 2851 first) (drop-of-length-le all {i = 2979} (omega arith))
+    ap₂ (λ (s t : List ℕ). s ++ (y ++ t)) (take-at x (drop 2723 b) 2723 first) (drop-of-length-le all {i = 2851} (omega arith))
     ∙ ap (λ (t : List ℕ). x ++ t) (append-nil y)
 
 sub-fill : tie.Need-sub-fill
@@ -56,15 +56,15 @@ returns c =
     let first = second .before .before .before .before in
     let s = first .before .before .before in
     let b = s .args .node .now in
-    let zeros : List ℕ = replicate 2851 0 in
+    let zeros : List ℕ = replicate 2723 0 in
     let twos : List ℕ = replicate 128 2 in
-    let front : first .fill .last .0 ≡ zeros = first .fill .ensures ∙ ap (λ (n : ℕ). replicate n 0) (length-part b 0 2851 (omega arith)) in
-    let half : List ℕ = putMid 0 2851 b (first .fill .last .0) in
+    let front : first .fill .last .0 ≡ zeros = first .fill .ensures ∙ ap (λ (n : ℕ). replicate n 0) (length-part b 0 2723 (omega arith)) in
+    let half : List ℕ = putMid 0 2723 b (first .fill .last .0) in
     let rest : second .fill2 .last .0 ≡ twos =
-    second .fill2 .ensures ∙ ap (λ (n : ℕ). replicate n 2) (length-part half 2851 128 (search needs)) in
+    second .fill2 .ensures ∙ ap (λ (n : ℕ). replicate n 2) (length-part half 2723 128 (search needs)) in
     ap nodeOf
-    (part-back half 2851 128 rest ∙ ap (λ (m : List ℕ). overwritten m 2851 128 twos) (part-back b 0 2851 front)
-    ∙ both b zeros twos (s .pre) (length-replicate {A = ℕ} 2851 0) (length-replicate {A = ℕ} 128 2))
+    (part-back half 2723 128 rest ∙ ap (λ (m : List ℕ). overwritten m 2723 128 twos) (part-back b 0 2723 front)
+    ∙ both b zeros twos (s .pre) (length-replicate {A = ℕ} 2723 0) (length-replicate {A = ℕ} 128 2))
     ∙ nothing-read
 
 pub clear-spec : {M : Type 1} → statement M

@@ -43,7 +43,7 @@ returns c =
     cc (
       part-back node (statesAt + m * stateSize) stateSize (c .before .before .write-state .ensures),
       state-written node (s .pre .1) m (messageStateBytes x) (s .pre .0) (state-size x),
-      state-decoded x (omega arith) (omega arith),
+      state-decoded x (omega arith),
     )
 
 pub put-state-spec : {M : Type 1} → statement M

@@ -1,4 +1,4 @@
--- `store::read_state` meets its contract: each byte and each word is read at its place.
+-- `store::read_state` meets its contract: each byte and the word is read at its place.
 -- Assumes nothing.
 use mathlib.Core.Path.{refl}
 use borrow.Author.Needs.{needs}
@@ -15,14 +15,11 @@ shared-slice-read-t5 c = search needs
 word-requires : tie.Need-word-requires
 word-requires c κs = search needs
 
-word-requires-2 : tie.Need-word-requires-2
-word-requires-2 c κs = search needs
-
 returns : tie.Need-returns
 unfolding messageStateOf
-returns c = rw (c .before .word .ensures, c .word2 .ensures) refl
+returns c = rw (c .word .ensures) refl
 
 pub read-state-spec : {M : Type 1} → statement M
 read-state-spec =
     tie.close
-    (tie.spec shared-slice-read-t3 shared-slice-read-t5 word-requires word-requires-2 returns)
+    (tie.spec shared-slice-read-t3 shared-slice-read-t5 word-requires returns)

@@ -1,4 +1,4 @@
--- `store::write_state` meets its contract: the bytes and the words are written one after the other, and they are the whole cell.
+-- `store::write_state` meets its contract: the bytes and the word are written one after the other, and they are the whole cell.
 -- Assumes nothing.
 use mathlib.Core.Path.{refl, _∙_}
 use mathlib.Core.List.{List, [], _∷_}
@@ -29,32 +29,18 @@ part-write-word-end c = simp length-set (omega arith)
 write-word-requires : tie.Need-write-word-requires
 write-word-requires c κs = search needs
 
-sub-write-word-2 : tie.Need-sub-write-word-2
-sub-write-word-2 c = search needs
-
-part-write-word-start-2 : tie.Need-part-write-word-start-2
-part-write-word-start-2 c = search needs
-
-part-write-word-end-2 : tie.Need-part-write-word-end-2
-part-write-word-end-2 c = rw (c .before .c .given .1) (simp length-set (omega arith))
-
-write-word-requires-2 : tie.Need-write-word-requires-2
-write-word-requires-2 c κs = search needs
-
 same-length : tie.Need-same-length
-same-length c = c .before .c2 .given .1 ∙ c .before .before .before .before .before .c .given .1 ∙ simp length-set
+same-length c = c .before .c .given .1 ∙ simp length-set
 
 returns : tie.Need-returns
 unfolding messageStateBytes
 returns c =
-    let second = c .before .before in
-    let first = second .before .before .before .before in
-    let e = first .before .before .before in
+    let word = c .before .before in
+    let e = word .before .before .before in
     let s = e .args .s in
     let leading : List ℕ = s .valid ∷ s .status ∷ [] in
     let bytes = written-first (e .args .c .now) leading (e .pre) (omega arith) in
-    let word = written-next bytes (first .write-word .ensures) (omega arith) in
-    written-all (written-next word (second .write-word2 .ensures) (omega arith)) refl
+    written-all (written-next bytes (word .write-word .ensures) (omega arith)) refl
 
 pub write-state-spec : {M : Type 1} → statement M
 write-state-spec =
@@ -66,9 +52,5 @@ write-state-spec =
     part-write-word-start
     part-write-word-end
     write-word-requires
-    sub-write-word-2
-    part-write-word-start-2
-    part-write-word-end-2
-    write-word-requires-2
     same-length
     returns)

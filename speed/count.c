@@ -1,9 +1,8 @@
 /*
  * Plays one call so many times on one side, for speed/count to count its instructions: count library|gcc|clang CALL OPTION TIMES; gcc and clang are the builds
  * of the fast twin. The layout has one message of ten bits. For send, assemble and consumed it is sent in one frame, of two bytes and from bit 3 on, and OPTION is
- * the message's filter for send, else whether it has a status bit (1) and the frame is an event frame (2). For the others it is received, and OPTION is the
- * number of such frames, and 16 more if the message is averaged. Each of these plays begins with a copy of the loaded node: copy does no more, deliver
- * delivers each frame, replace delivers each twice, and round delivers each and closes.
+ * the message's filter for send, else whether it has a status bit (1) and the frame is an event frame (2). For deliver and round it is received, and OPTION is
+ * the number of such frames: deliver delivers each, and round delivers each and closes.
  */
 #include "fast.h"
 
@@ -19,11 +18,11 @@ enum { VALUE = 677 }; /* which is sent */
 
 static uint8_t data[2], file[24 * (8 + 1 + 8)];
 static size_t length;
-static unsigned frames, deliveries, closes;
+static unsigned frames;
 
-enum call { NOTHING, SEND, ASSEMBLE, CONSUMED, COPY, DELIVER, REPLACE, ROUND, CALLS };
+enum call { NOTHING, SEND, ASSEMBLE, CONSUMED, DELIVER, ROUND, CALLS };
 
-static const char *const names[CALLS] = {"nothing", "send", "assemble", "consumed", "copy", "deliver", "replace", "round"};
+static const char *const names[CALLS] = {"nothing", "send", "assemble", "consumed", "deliver", "round"};
 
 typedef unsigned play(void);
 
@@ -39,21 +38,20 @@ static unsigned play_nothing(void)
     }
 
 #define SIDE(side)                                                                                                                 \
-    static side##_node side##_loaded, side##_start;                                                                                \
-    static unsigned side##_play_received(void)                                                                                     \
+    static side##_node side##_start;                                                                                               \
+    static unsigned side##_play_deliver(void)                                                                                      \
     {                                                                                                                              \
         unsigned answers = 0;                                                                                                      \
-        side##_start = side##_loaded;                                                                                              \
-        for (unsigned k = 0; k < deliveries; k++)                                                                                  \
-            for (unsigned f = 0; f < frames; f++)                                                                                  \
-                answers += side##_deliver(&side##_start, f, 1, data, sizeof data);                                                 \
-        return closes ? answers + side##_close(&side##_start) : answers;                                                           \
+        for (unsigned f = 0; f < frames; f++)                                                                                      \
+            answers += side##_deliver(&side##_start, f, 1, data, sizeof data);                                                     \
+        return answers;                                                                                                            \
     }                                                                                                                              \
     PLAY(side, send, side##_send(&side##_start, 0, VALUE))                                                                         \
     PLAY(side, assemble, side##_assemble(&side##_start, 0, data, sizeof data))                                                     \
     PLAY(side, consumed, side##_consumed(&side##_start, 0))                                                                        \
-    static play *const side##_plays[CALLS] = {play_nothing,         side##_play_send,     side##_play_assemble, side##_play_consumed, \
-                                              side##_play_received, side##_play_received, side##_play_received, side##_play_received};
+    PLAY(side, round, (side##_play_deliver(), side##_close(&side##_start)))                                                        \
+    static play *const side##_plays[CALLS] = {play_nothing,         side##_play_send,    side##_play_assemble, \
+                                              side##_play_consumed, side##_play_deliver, side##_play_round};
 
 SIDE(mondgurt)
 SIDE(gcc)
@@ -80,10 +78,10 @@ static uint8_t *record(unsigned kind, unsigned number)
 
 static void write_layout(enum call call, unsigned option)
 {
-    int received = call >= COPY;
+    int received = call >= DELIVER;
     int event = !received && call != SEND && option == 2, status = !received && option != 0;
 
-    frames = received ? option % 16 : 1;
+    frames = received ? option : 1;
     for (unsigned f = 0; f < frames; f++) {
         uint8_t *r = record(1, f);
         r[2] = sizeof data;
@@ -93,7 +91,6 @@ static void write_layout(enum call call, unsigned option)
     uint8_t *g = record(2, 0);
     g[2] = 10;
     g[4] = !received;
-    g[5] = received && option >= 16;
     g[6] = call == SEND ? (uint8_t)option : 0;
     if (g[6] == 4) { /* what is held from the start is all that passes */
         g[16] = VALUE & 255;
@@ -122,13 +119,8 @@ int main(int count, char **word)
     unsigned long answers = 0;
 
     write_layout(call, option);
-    if (mondgurt_load(&mondgurt_loaded, file, length) || gcc_load(&gcc_loaded, file, length) || clang_load(&clang_loaded, file, length))
+    if (mondgurt_load(&mondgurt_start, file, length) || gcc_load(&gcc_start, file, length) || clang_load(&clang_start, file, length))
         return 1;
-    mondgurt_start = mondgurt_loaded;
-    gcc_start = gcc_loaded;
-    clang_start = clang_loaded;
-    deliveries = call == REPLACE ? 2 : call == DELIVER || call == ROUND;
-    closes = call == ROUND;
     for (long times = atol(word[4]); times > 0; times--)
         answers += plays[call]();
     printf("%lu %d %d\n", answers, data[0], data[1]);

@@ -6,8 +6,7 @@
 
 typedef struct {
     uint8_t length, big, sent, event;
-    uint8_t first;    /* sent: its first field, the others by next; FAST_NONE ends. Received: its first place among the averaged fields */
-    uint8_t averaged; /* received: how many averaged fields it has */
+    uint8_t first; /* its first field, the others by next; FAST_NONE ends */
     uint8_t data[40]; /* 32 and a margin, so that eight can be read from each of them on */
 } fast_frame;
 
@@ -30,22 +29,12 @@ typedef struct {
 
 #define FAST_NONE 255
 
-/* A field of an averaged message as a delivery reads it. */
-typedef struct {
-    int64_t share; /* what it gave when its frame was last delivered */
-    uint8_t message;
-    uint8_t byte, left, right, is_signed; /* its value: the eight bytes from that one on, shifted left and then right, with the sign or without */
-    uint8_t status, mask;                 /* the byte that has its status bit, and the bit there; 0 if it has none */
-} fast_averaged;
-
 typedef struct {
     uint8_t frames, messages, fields;
     uint32_t delivered; /* bit f: frame f was delivered this round */
     fast_frame frame[32];
     fast_message message[32];
     fast_field field[128];
-    fast_averaged averaged[128]; /* frame by frame */
-    int64_t share[32];           /* of each averaged message: what its fields gave this round */
 } fast_node;
 
 /* speed/twin compiles fast.c by two compilers and names their calls gcc_load, clang_load and so on. */

@@ -28,14 +28,13 @@ struct shape {
     enum { RECEIVED, SENT, BOTH } direction;  /* BOTH: the odd frames and messages are sent */
     enum { MIXED, PLAIN, EVENT } kind;        /* PLAIN: no filter and no status bit; EVENT: event frames, all messages with status bits */
     int floats;                               /* half of the messages are floats, where these fit */
-    int averaged;                             /* all received messages are averaged */
 };
 
 struct layout {
     uint8_t file[4608];
     size_t length;
     int64_t low[32], high[32]; /* each message's least and greatest value */
-    uint8_t is_float[32], is_averaged[32];
+    uint8_t is_float[32];
     uint32_t pool[4];          /* patterns that its floats often have */
     uint8_t big[32];           /* each frame's order */
     uint16_t start[32][32];    /* where a message's field lies in a frame, or NONE */
@@ -130,9 +129,7 @@ static void write_layout(struct layout *l, const struct shape *s)
             if (filter == 2 || filter == 3 || filter == 6 || filter == 7)
                 filter += 6; /* no masks */
         }
-        unsigned agreement = sent ? 0 : s->averaged ? 1 : random_below(3);
-        l->is_averaged[m] = agreement == 1 && !l->is_float[m];
-        uint8_t r[24] = {2, m, width[m], sign, sent, agreement, filter};
+        uint8_t r[24] = {2, m, width[m], sign, sent, sent ? 0 : random_below(3), filter};
         l->low[m] = sign == 1 ? -(INT64_C(1) << (width[m] - 1)) : 0;
         l->high[m] = l->low[m] + (INT64_C(1) << width[m]) - 1;
         if (filter == 2 || filter == 3 || (6 <= filter && filter <= 9))
@@ -315,7 +312,7 @@ static enum call random_call(const struct shape *s)
 static void compare(unsigned layouts, unsigned calls)
 {
     static struct layout l;
-    unsigned seen[256] = {0}, floats[256] = {0}, means[256] = {0}, refused[MONDGURT_WIDTH + 1] = {0};
+    unsigned seen[256] = {0}, floats[256] = {0}, refused[MONDGURT_WIDTH + 1] = {0};
 
     for (unsigned k = 0; k < layouts; k++) {
         struct shape s = random_shape();
@@ -328,10 +325,8 @@ static void compare(unsigned layouts, unsigned calls)
             enum call call = random_call(&s);
             uint64_t answer = all(call, 1);
             seen[answer]++;
-            if (call == RECEIVE && inputs[0].number < s.messages) {
-                floats[answer] += l.is_float[inputs[0].number];
-                means[answer] += l.is_averaged[inputs[0].number];
-            }
+            if (call == RECEIVE && inputs[0].number < s.messages && l.is_float[inputs[0].number])
+                floats[answer]++;
         }
         l.file[random_below(l.length)] ^= 1 << random_below(8);
         inputs[0] = (struct input){.file = l.file, .length = random_below(8) ? l.length : random_below(l.length)};
@@ -341,7 +336,6 @@ static void compare(unsigned layouts, unsigned calls)
     for (unsigned answer = 0; answer < 24; answer += answer ? 1 : 16)
         printf(" %u", seen[answer]);
     printf("\nReceived floats, answers 0, 20, 21 and 22: %u %u %u %u", floats[0], floats[20], floats[21], floats[22]);
-    printf("\nReceived means of whole numbers, answers 0, 21 and 22: %u %u %u", means[0], means[21], means[22]);
     printf("\nA byte changed, accepted and refusals 1 to 10:");
     for (unsigned refusal = 0; refusal <= MONDGURT_WIDTH; refusal++)
         printf(" %u", refused[refusal]);
@@ -445,23 +439,6 @@ static size_t each_frame(const struct shape *s, uint8_t byte)
     return s->frames;
 }
 
-static size_t each_frame_at_random(const struct shape *s)
-{
-    for (size_t i = each_frame(s, 0); i-- > 0;)
-        for (int k = 0; k < 32; k++)
-            inputs[i].data[k] = random_below(256);
-    return s->frames;
-}
-
-/* Closes what was delivered and receives each message, so that the values are compared too; answers the sum of the answers. */
-static uint64_t close_and_receive(const struct shape *s)
-{
-    all(CLOSE, 1);
-    for (unsigned m = 0; m < s->messages; m++)
-        inputs[m] = (struct input){.number = m};
-    return all(RECEIVE, s->messages);
-}
-
 static void sending_rows(struct shape s)
 {
     s.direction = SENT;
@@ -560,29 +537,11 @@ static void closing_rows(struct shape s)
     row(CLOSE, "no instance counts", 1);
     s.kind = PLAIN;
     load(&s);
-    all(DELIVER, each_frame_at_random(&s));
+    for (size_t i = each_frame(&s, 0); i-- > 0;)
+        for (int k = 0; k < 32; k++)
+            inputs[i].data[k] = random_below(256);
+    all(DELIVER, s.frames);
     row(CLOSE, "instances differ", 1);
-}
-
-/* Closings of 16 averaged messages of whole numbers in 32 frames, without status bits and filters: all instances count and differ, or none came. */
-static void averaged_rows(void)
-{
-    static const char *const delivered[] = {"1", "2", "4", "8"};
-    static const char *const none[] = {"1, nothing delivered", "2, nothing delivered", "4, nothing delivered", "8, nothing delivered"};
-
-    for (int k = 0; k < 4; k++) {
-        struct shape s = {.frames = 32, .bytes = 32, .messages = 16, .fields = 1u << k, .direction = RECEIVED, .kind = PLAIN, .averaged = 1};
-        load(&s);
-        all(DELIVER, each_frame_at_random(&s));
-        row(CLOSE, delivered[k], 1);
-        if (close_and_receive(&s) != 0)
-            differ(RECEIVE);
-    }
-    for (int k = 0; k < 4; k++) {
-        struct shape s = {.frames = 32, .bytes = 32, .messages = 16, .fields = 1u << k, .direction = RECEIVED, .kind = PLAIN, .averaged = 1};
-        load(&s);
-        row(CLOSE, none[k], 1);
-    }
 }
 
 /* Closings of 16 messages with 8 fields each of 32 bits, all byte-aligned and of little order; seven of eight replicas of a message are equal. */
@@ -615,7 +574,10 @@ static void aligned_row(const char *what, unsigned sign, unsigned agreement)
         }
     all(DELIVER, s.frames);
     row(CLOSE, s.name, 1);
-    if (close_and_receive(&s) != 0)
+    all(CLOSE, 1);
+    for (unsigned m = 0; m < s.messages; m++)
+        inputs[m] = (struct input){.number = m};
+    if (all(RECEIVE, s.messages) != 0)
         differ(RECEIVE);
 }
 
@@ -623,7 +585,7 @@ static void aligned_row(const char *what, unsigned sign, unsigned agreement)
  * A layout of 128 fields: 32 messages of seven bits with a status bit, in four frames each. The frames to be played come first and carry so many fields
  * each; the last 16 frames share what is left of the 128. The shape is that of the frames to be played.
  */
-static struct shape load_by_frame(unsigned in_frame, unsigned sent, unsigned event, unsigned agreement)
+static struct shape load_by_frame(unsigned in_frame, unsigned sent, unsigned event)
 {
     const struct shape s = {.frames = in_frame < 8 ? 16 : 128 / in_frame, .bytes = 32, .messages = 32};
     unsigned in_others = (128 - s.frames * in_frame) / 16;
@@ -639,7 +601,7 @@ static struct shape load_by_frame(unsigned in_frame, unsigned sent, unsigned eve
             carries[next++ % 32][f] = 1;
     }
     for (unsigned m = 0; m < s.messages; m++) {
-        uint8_t r[24] = {2, m, 7, 0, sent, agreement};
+        uint8_t r[24] = {2, m, 7, 0, sent};
         layout.low[m] = 0;
         layout.high[m] = 127;
         layout.is_float[m] = 0;
@@ -663,63 +625,24 @@ static void frame_rows(void)
     static const char *const suppressed[] = {"1, answer 23", "2, answer 23", "4, answer 23", "8, answer 23", "16, answer 23", "32, answer 23"};
 
     for (int k = 0; k < 6; k++) {
-        struct shape s = load_by_frame(1u << k, 1, 0, 0);
+        struct shape s = load_by_frame(1u << k, 1, 0);
         all(SEND, each_message(&s));
         row(ASSEMBLE, numbers[k], each_frame(&s, 0));
     }
     for (int k = 0; k < 6; k++) {
-        struct shape s = load_by_frame(1u << k, 1, 0, 0);
+        struct shape s = load_by_frame(1u << k, 1, 0);
         all(SEND, each_message(&s));
         all(ASSEMBLE, each_frame(&s, 0));
         row(CONSUMED, numbers[k], s.frames);
     }
     for (int k = 0; k < 6; k++) {
-        struct shape s = load_by_frame(1u << k, 1, 1, 0);
+        struct shape s = load_by_frame(1u << k, 1, 1);
         refusal_row(ASSEMBLE, suppressed[k], each_frame(&s, 0), 0, MONDGURT_SUPPRESSED);
     }
     for (int k = 0; k < 6; k++) {
-        struct shape s = load_by_frame(1u << k, 0, 0, 0);
+        struct shape s = load_by_frame(1u << k, 0, 0);
         row(DELIVER, numbers[k], each_frame(&s, 255));
     }
-}
-
-/* An input for each frame to be played, with values that differ and all status bits set: they are the highest and the lowest bit of each byte. */
-static size_t each_counting(const struct shape *s)
-{
-    for (size_t i = each_frame_at_random(s); i-- > 0;)
-        for (int k = 0; k < 32; k++)
-            inputs[i].data[k] |= 0x81;
-    return s->frames;
-}
-
-/* How a delivery grows with the averaged fields of its frame: the first of the round, and one that replaces it. All instances count. */
-static void delivery_rows(void)
-{
-    static const unsigned averaged[] = {0, 1, 2, 4, 8, 16, 32};
-    static const char *const first[] = {"0", "1", "2", "4", "8", "16", "32"};
-    static const char *const replacing[] = {"0, replacing", "1, replacing", "2, replacing", "4, replacing", "8, replacing", "16, replacing", "32, replacing"};
-    struct shape s;
-
-    for (int k = 0; k < 7; k++) {
-        s = load_by_frame(averaged[k], 0, 0, 1);
-        row(DELIVER, first[k], each_counting(&s));
-        all(DELIVER, s.frames);
-        close_and_receive(&s);
-    }
-    for (int k = 0; k < 7; k++) {
-        s = load_by_frame(averaged[k], 0, 0, 1);
-        all(DELIVER, each_counting(&s));
-        row(DELIVER, replacing[k], each_counting(&s));
-        all(DELIVER, s.frames);
-        close_and_receive(&s);
-    }
-    /* As many frames with no field and with 32. */
-    s = load_by_frame(32, 0, 0, 0);
-    size_t frames = s.frames;
-    row(DELIVER, "0 and 32 not averaged", each_counting(&s));
-    s = load_by_frame(0, 0, 0, 0);
-    each_counting(&s);
-    row(DELIVER, "0 and no other field", frames);
 }
 
 static void heading(const char *what)
@@ -771,11 +694,5 @@ int main(void)
     printf("\n");
     heading("Fields of the frame");
     frame_rows();
-    printf("\n");
-    heading("Averaged messages: fields of each");
-    averaged_rows();
-    printf("\n");
-    heading("Averaged fields of the frame");
-    delivery_rows();
     return 0;
 }

@@ -1,6 +1,6 @@
 /* Plays steps on the library: reads them from standard input and writes a reply to each to standard output.
    The twin starts it. A step is a letter, the number of a node and what the step brings; a reply is the answer,
-   the marks, and afterwards the shares of the node and the lent bytes. Numbers are little-endian. */
+   the marks and the lent bytes afterwards. Numbers are little-endian. */
 
 #include <stdint.h>
 #include <stdio.h>
@@ -21,13 +21,6 @@
 
 #if MONDGURT_FILE != 4608
 #error "the longest layout file is not the paper's"
-#endif
-
-/* The shares, which a node keeps of its averaged messages: a cell for each message there may be, at the end. */
-#define SHARES_AT 2851
-#define SHARES (32 * 10)
-#if MONDGURT_NODE != SHARES_AT + SHARES
-#error "a node does not end with its shares"
 #endif
 
 /* WIDTH at byte 16 of record 191. */
@@ -110,11 +103,10 @@ static void put(uint64_t value, size_t length)
         putchar((int)(value >> (8 * i) & 0xFF));
 }
 
-static void reply(const mondgurt_node *node, uint32_t answer, int marks)
+static void reply(uint32_t answer, int marks)
 {
     put(answer, 4);
     put((uint64_t)marks, 1);
-    fwrite(node->bytes + SHARES_AT, 1, SHARES, stdout);
 }
 
 static mondgurt_node *nodes[2];
@@ -138,7 +130,7 @@ static void load(mondgurt_node *node)
     memcpy(copy, file, length);
     uint32_t answer = mondgurt_load(node, length == 0 ? NULL : file, length);
     int data = memcmp(file, copy, length) == 0 ? 0 : DATA;
-    reply(node, answer, node_marks(node) | touched_around(file, length) | data);
+    reply(answer, node_marks(node) | touched_around(file, length) | data);
     free(copy);
     give_back(file);
 }
@@ -150,7 +142,7 @@ static void assemble(mondgurt_node *node)
     uint8_t *data = lend(length);
     take(data, length);
     uint8_t answer = mondgurt_assemble(node, frame, length == 0 ? NULL : data, length);
-    reply(node, answer, node_marks(node) | touched_around(data, length));
+    reply(answer, node_marks(node) | touched_around(data, length));
     fwrite(data, 1, length, stdout);
     give_back(data);
 }
@@ -161,7 +153,7 @@ static void read_flag(mondgurt_node *node)
     uint8_t place[3] = {GUARD_BYTE, (uint8_t)number(1), GUARD_BYTE};
     uint8_t answer = mondgurt_read_flag(node, message, &place[1]);
     int around = place[0] == GUARD_BYTE && place[2] == GUARD_BYTE ? 0 : AROUND;
-    reply(node, answer, node_marks(node) | around);
+    reply(answer, node_marks(node) | around);
     put(place[1], 1);
 }
 
@@ -176,7 +168,7 @@ static void deliver(mondgurt_node *node)
     memcpy(copy, data, length);
     uint8_t answer = mondgurt_deliver(node, frame, valid, length == 0 ? NULL : data, length);
     int changed = memcmp(data, copy, length) == 0 ? 0 : DATA;
-    reply(node, answer, node_marks(node) | touched_around(data, length) | changed);
+    reply(answer, node_marks(node) | touched_around(data, length) | changed);
     free(copy);
     give_back(data);
 }
@@ -188,7 +180,7 @@ static void receive(mondgurt_node *node)
     place[1] = signed_number();
     uint8_t answer = mondgurt_receive(node, message, &place[1]);
     int around = place[0] == GUARD_VALUE && place[2] == GUARD_VALUE ? 0 : AROUND;
-    reply(node, answer, node_marks(node) | around);
+    reply(answer, node_marks(node) | around);
     put((uint64_t)place[1], 8);
 }
 
@@ -200,7 +192,7 @@ static void play(int step, mondgurt_node *node)
     switch (step) {
     case 'Z': /* fill the node */
         memset(node->bytes, (int)number(1), sizeof node->bytes);
-        reply(node, 0, 0);
+        reply(0, 0);
         break;
     case 'L':
         load(node);
@@ -208,23 +200,23 @@ static void play(int step, mondgurt_node *node)
     case 'P': /* damage a byte */
         named = number(4) % sizeof node->bytes;
         node->bytes[named] = (uint8_t)number(1);
-        reply(node, 0, 0);
+        reply(0, 0);
         break;
     case 'S':
         named = number(8);
         answer = mondgurt_send(node, named, signed_number());
-        reply(node, answer, node_marks(node));
+        reply(answer, node_marks(node));
         break;
     case 'I':
         answer = mondgurt_invalidate(node, number(8));
-        reply(node, answer, node_marks(node));
+        reply(answer, node_marks(node));
         break;
     case 'A':
         assemble(node);
         break;
     case 'C':
         answer = mondgurt_consumed(node, number(8));
-        reply(node, answer, node_marks(node));
+        reply(answer, node_marks(node));
         break;
     case 'F':
         read_flag(node);
@@ -234,13 +226,13 @@ static void play(int step, mondgurt_node *node)
         break;
     case 'X':
         answer = mondgurt_close(node);
-        reply(node, answer, node_marks(node));
+        reply(answer, node_marks(node));
         break;
     case 'R':
         receive(node);
         break;
     case 'N': /* the node's bytes */
-        reply(node, 0, 0);
+        reply(0, 0);
         fwrite(node->bytes, 1, sizeof node->bytes, stdout);
         break;
     default:

@@ -1,4 +1,4 @@
 """Layouts of a Mondgurt node: as files, as text and as pictures."""
 
 # That of include/mondgurt.h, with which the tools are handed out.
-VERSION = 10
+VERSION = 9

@@ -1,5 +1,5 @@
-//! Holds what the library replied to a case against the twin: every answer, buffer and place, the
-//! shares after each call, what else changed in memory, and the node's bytes in two orders of the calls.
+//! Holds what the library replied to a case against the twin: every answer, buffer and place, what
+//! else changed in memory, and the node's bytes in two orders of the calls.
 
 use crate::calls::{Call, Outcome};
 use crate::case::Case;
@@ -7,7 +7,6 @@ use crate::counts::Counts;
 use crate::layout::{read, Layout, Verdict};
 use crate::node::{Node, OK};
 use crate::player::{Reply, Step, AROUND, DATA, NODE};
-use crate::shares::{Share, CELL};
 
 /// What was played and what each side said, to be read by people.
 pub type Difference = String;
@@ -109,7 +108,7 @@ fn check_calls<'a>(
         let earlier = twin.clone();
         let outcome = call.play(&mut twin);
         counts.call(&earlier, call, outcome.answer);
-        check_call(&outcome, &twin, twin != earlier, next())
+        check_call(&outcome, twin != earlier, next())
             .map_err(|said| case.told(node, before + 1) + &said)?;
         if closing {
             dump(before + 1, &twin, next());
@@ -167,11 +166,7 @@ fn check_load(verdict: &Verdict, reply: &Reply) -> Result<(), Difference> {
     if reply.answer != answer {
         return Err(two_sides(shown(answer), shown(reply.answer)));
     }
-    check_marks(reply, changed)?;
-    match verdict {
-        Verdict::Accepted(layout) => check_shares(&Node::start(layout), reply),
-        Verdict::Refused { .. } => Ok(()),
-    }
+    check_marks(reply, changed)
 }
 
 /// The answer of a load. Byte 0 means that there is none.
@@ -186,12 +181,7 @@ fn shown(answer: u32) -> String {
 
 /// If the twin's node is the same after the call, and so after every refusal, then no byte of the
 /// library's node may have changed.
-fn check_call(
-    outcome: &Outcome,
-    twin: &Node,
-    changed: bool,
-    reply: &Reply,
-) -> Result<(), Difference> {
+fn check_call(outcome: &Outcome, changed: bool, reply: &Reply) -> Result<(), Difference> {
     let said = Outcome {
         answer: reply.answer as u8,
         lent: reply.lent.clone(),
@@ -199,20 +189,7 @@ fn check_call(
     if said != *outcome {
         return Err(two_sides(outcome.to_string(), said.to_string()));
     }
-    check_marks(reply, changed)?;
-    check_shares(twin, reply)
-}
-
-/// What the library's node keeps, against a fresh look at what was delivered to the twin's.
-fn check_shares(twin: &Node, reply: &Reply) -> Result<(), Difference> {
-    for (number, cell) in reply.shares.chunks(CELL).enumerate() {
-        let (fresh, kept) = (Share::fresh(twin, number), Share::of_cell(cell));
-        if kept != fresh {
-            let sides = two_sides(fresh.to_string(), kept.to_string());
-            return Err(format!("the share of message {number}\n{sides}"));
-        }
-    }
-    Ok(())
+    check_marks(reply, changed)
 }
 
 fn check_marks(reply: &Reply, changed: bool) -> Result<(), Difference> {

@@ -16,13 +16,10 @@ const SEED: u64 = 1;
 /// With at least the default number of calls and files, all that can occur has to occur so often;
 /// each refusal at each byte that it can give, each size of a vote, and what is rare of floats, so
 /// often; and verdicts that tell the held value from another and are shown, received and sent, so often.
-/// Without `send_and_assemble` of scripts.rs, or without its assembly, too few of those sent are. What
-/// can be done to a sum has to occur so often; without `deliver_again` too few frames come once more
-/// with an invalid controller status after one that does not count.
+/// Without `send_and_assemble` of scripts.rs, or without its assembly, too few of those sent are.
 const LEAST: u64 = 100;
 const LEAST_RARE: u64 = 20;
 const LEAST_OLD: [u64; 2] = [25, 45];
-const LEAST_SUM: u64 = 50;
 
 /// So many cases are played at once.
 const FILES_AT_ONCE: u64 = 400;
@@ -110,14 +107,6 @@ fn conclude(task: &Task, counts: &Counts) -> ExitCode {
             println!("{name}: a filter told the held value from another fewer than {least} times");
             return ExitCode::from(1);
         }
-    }
-    if all_calls && counts.sums.least() < LEAST_SUM {
-        println!("something was done to a sum fewer than {LEAST_SUM} times");
-        return ExitCode::from(1);
-    }
-    if all_calls && counts.sums.least_rare() < LEAST_RARE {
-        println!("something was in a sum fewer than {LEAST_RARE} times");
-        return ExitCode::from(1);
     }
     println!("no difference");
     ExitCode::SUCCESS

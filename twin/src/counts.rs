@@ -11,7 +11,6 @@ use crate::layout::{
 };
 use crate::node::{Node, ACCESS, ID, OK};
 use crate::old_counts::{Past, Put};
-use crate::sum_counts::SumCounts;
 use crate::whole_counts::WholeCounts;
 use crate::wrong::{Place, Row, FLOAT, PLACES};
 
@@ -49,7 +48,6 @@ pub struct Counts {
     statuses: [[[u64; 2]; 2]; 2],
     pub whole: WholeCounts,
     pub floats: FloatCounts,
-    pub sums: SumCounts,
     /// Of each message of the node that is played.
     pasts: Vec<Past>,
 }
@@ -88,7 +86,6 @@ impl Counts {
     pub fn layout(&mut self, layout: &Layout) {
         self.layouts += 1;
         self.pasts = layout.messages.iter().map(Past::start).collect();
-        self.sums.layout(layout);
     }
 
     /// A call on a node as it was before, and its answer.
@@ -102,7 +99,6 @@ impl Counts {
             }
         }
         self.look(node, call, answer);
-        self.sums.call(node, call, answer);
         for (message, value) in call.puts(node, answer) {
             self.filter(node, message, value);
         }
@@ -151,8 +147,7 @@ impl Counts {
         let statuses = self.statuses.iter_mut().flatten().flatten();
         let all = self.files.iter_mut().chain(places).chain(single);
         let all = all.chain(answers).chain(fields).chain(statuses);
-        let all = all.chain(self.whole.all()).chain(self.floats.all());
-        all.chain(self.sums.all())
+        all.chain(self.whole.all()).chain(self.floats.all())
     }
 
     fn closing(&mut self, node: &Node, number: usize) {
@@ -355,7 +350,6 @@ impl fmt::Display for Counts {
         });
         writeln!(f, "  status bits 0 and 1: little {little}; big {big}")?;
         self.whole.fmt(f)?;
-        self.sums.fmt(f)?;
         self.floats.fmt(f)?;
         writeln!(
             f,

@@ -21,7 +21,5 @@ pub mod plans;
 pub mod player;
 pub mod random;
 pub mod scripts;
-pub mod shares;
-pub mod sum_counts;
 pub mod whole_counts;
 pub mod wrong;

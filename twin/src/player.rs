@@ -6,7 +6,6 @@ use std::process::{Child, ChildStdin, ChildStdout, Command, ExitStatus, Stdio};
 use std::thread;
 
 use crate::calls::Call;
-use crate::shares::{CELL, CELLS};
 
 pub enum Step<'a> {
     /// All the node's bytes become this one.
@@ -31,8 +30,6 @@ pub const DATA: u8 = 4;
 pub struct Reply {
     pub answer: u32,
     pub marks: u8,
-    /// The cells of the node's shares, after the step.
-    pub shares: Vec<u8>,
     pub lent: Vec<u8>,
 }
 
@@ -149,15 +146,13 @@ fn lent_length(step: &Step, node: usize) -> usize {
 
 fn reply(output: &mut impl Read, lent: usize) -> io::Result<Reply> {
     let answer = word(output)?;
-    let mut bytes = vec![0; 1 + CELLS * CELL + lent];
+    let mut bytes = vec![0; 1 + lent];
     output.read_exact(&mut bytes)?;
-    let lent = bytes.split_off(1 + CELLS * CELL);
-    let shares = bytes.split_off(1);
+    let lent = bytes.split_off(1);
     let marks = bytes[0];
     Ok(Reply {
         answer,
         marks,
-        shares,
         lent,
     })
 }

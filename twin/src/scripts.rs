@@ -4,11 +4,10 @@ use crate::agreement::sizes;
 use crate::bits;
 use crate::calls::Call;
 use crate::float::SIGN;
-use crate::layout::{uses_old, Field, Layout, Sign};
+use crate::layout::{uses_old, Layout, Sign};
 use crate::node::Node;
 use crate::patterns::{made_finite, not_finite, Theme};
 use crate::random::Random;
-use crate::shares::is_averaged;
 
 /// The calls of several rounds on a node of the layout. Each ends with a closing, after which all
 /// messages are received or only some.
@@ -113,8 +112,7 @@ impl<'a> Writer<'a> {
             (true, 13..=14) => self.read_flag(),
             (true, 15) => self.send_through(),
             (true, _) => self.send_and_assemble(),
-            (false, 0..=12) => self.deliver(),
-            (false, 13..=15) => self.deliver_again(),
+            (false, 0..=15) => self.deliver(),
             (false, _) => self.receive(),
         }
     }
@@ -210,19 +208,6 @@ impl<'a> Writer<'a> {
     fn deliver(&mut self) {
         let frame = self.frame(false);
         self.deliver_to(frame);
-    }
-
-    /// A frame that came this round and carries an averaged message, if there is one: what it gave is
-    /// replaced.
-    fn deliver_again(&mut self) {
-        let layout = self.node.layout;
-        let carries = |field: &Field| is_averaged(&layout.messages[field.message]);
-        let came = (0..layout.frames.len()).filter(|&frame| self.node.delivered[frame].is_some());
-        let came = came.filter(|&frame| layout.fields_of_frame(frame).any(carries));
-        match self.random.pick(&came.collect::<Vec<usize>>()) {
-            Some(frame) => self.deliver_to(frame as u64),
-            None => self.deliver(),
-        }
     }
 
     fn deliver_each(&mut self) {

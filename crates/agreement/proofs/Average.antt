@@ -16,7 +16,7 @@ use Rattle.whole.specs.Whole.{all_of}
 use Rattle.agreement.specs.declared.Agreed.TheVariants.{Value}
 use Rattle.agreement.specs.Agreement.{sum_of, mean_of, between, message_values, average}
 use Rattle.agreement.proofs.MessageValues.{no_mean, has_mean}
-use Rattle.agreement.proofs.Quotients.{sum_order, quotient_toward_zero, quotient_exact, quotient_order}
+use Rattle.agreement.proofs.Quotient.{sum_order, quotient_toward_zero, quotient_exact, quotient_order}
 
 -- ---- toward zero
 

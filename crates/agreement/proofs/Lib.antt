@@ -1,6 +1,6 @@
 pub mod Turns
-pub mod Quotients
 pub mod MessageValues
+pub mod Quotient
 pub mod Vote
 pub mod Counted
 pub mod Average

@@ -1,34 +1,53 @@
--- Instances that messages hold: how far from zero each of them and their sum lie, their parts, and that they have a mean and nothing else has.
+-- Instances that messages hold: their tests as the code has them, their parts, how far from zero they lie, and that they have a mean and nothing else
+-- has. The code tests for what lies outside two bounds, and to lie between them is to lie on neither outer side.
 -- Assumes nothing.
-use mathlib.Core.Path.{◌≡◌, refl}
-use mathlib.Core.Bool.{true, false, ◌&&◌, and-eq-true_iff}
+use mathlib.Core.Path.{◌≡◌, refl, ap, ap₂, ◌∙◌}
+use mathlib.Core.Bool.{Bool, true, false, ◌&&◌, ◌||◌, not, and-eq-true_iff}
 use mathlib.Core.List.{List, [], ◌∷◌}
-use Prim.Native.Nat.{◌-◌, ◌*◌, ◌≤◌, ◌^◌}
+use Prim.Native.Nat.{ℕ, zero, suc, ◌-◌, ◌<◌, ◌≤◌, ◌^◌}
 use native.Mathlib.Omega.{arith}
-use lib.Dec.{leb}
-use lib.IntN.{ℤ, pos, negsuc, nat_abs}
-use lib.ListN.{length}
+use lib.Dec.{ltb, leb}
+use lib.IntN.{ℤ, pos, negsuc, neg_ℤ, nat_abs}
+use lib.ListN.{length, get_or}
+use lib.Signed.{lt_z}
 use borrow.Author.Tests.{leb-true}
 use Rattle.whole.specs.Whole.{all_of}
+use Rattle.whole.proofs.Integers.{at_most_lem}
 use Rattle.agreement.specs.declared.Agreed.TheVariants.{Value, NoResult}
-use Rattle.agreement.specs.Agreement.{sum_of, mean_of, message_value, message_values, average}
-use Rattle.agreement.proofs.Quotients.{abs_add}
+use Rattle.agreement.specs.Agreement.{mean_of, between, message_value, message_values, average}
 
--- ---- how far from zero
+-- ---- between two bounds
 
-value_small : (v : ℤ) → message_value v ≡ true → nat_abs v ≤ 2 ^ 32
+between_test : (lo hi v : ℤ) → between lo hi v ≡ not (lt_z v lo || lt_z hi v)
+between_test lo hi v = ap₂ ◌&&◌ (at_most_lem lo v) (at_most_lem v hi) ∙ neither (lt_z v lo) (lt_z hi v)
+  where
+    neither : (a b : Bool) → (not a && not b) ≡ not (a || b)
+    neither true b = refl
+    neither false b = refl
+
+-- ---- a message's values
+
+pub value_test : (v : ℤ) → message_value v ≡ not (lt_z v (neg_ℤ (pos (2 ^ 31))) || lt_z (pos (2 ^ 32 - 1)) v)
+unfolding message_value
+value_test v = between_test (neg_ℤ (pos (2 ^ 31))) (pos (2 ^ 32 - 1)) v
+
+pub value_small : (v : ℤ) → message_value v ≡ true → nat_abs v ≤ 2 ^ 32
 unfolding message_value
 value_small (pos n) t = omega (arith, leb-true n (2 ^ 32 - 1) t)
 value_small (negsuc n) t = omega (arith, leb-true n (2 ^ 31 - 1) ((and-eq-true_iff _ _).0 t).0)
 
-sum_near : (l : List ℤ) → all_of message_value l ≡ true → nat_abs (sum_of l) ≤ length l * 2 ^ 32
-unfolding all_of sum_of
-sum_near [] t = omega arith
-sum_near (v ∷ l) t =
-    let parts = (and-eq-true_iff (message_value v) (all_of message_value l)).0 t in
-    omega (arith, abs_add v (sum_of l), value_small v parts.0, sum_near l parts.1)
-
 -- ---- one to eight instances
+
+pub values_test : (l : List ℤ) → message_values l ≡ (not (ltb (length l) 1 || ltb 8 (length l)) && all_of message_value l)
+unfolding message_values
+values_test l = ap (λ t. t && all_of message_value l) (between_test (pos 1) (pos 8) (pos (length l)))
+
+-- a test that all pass is passed at each place
+pub all_at : (p : ℤ → Bool) (l : List ℤ) (j : ℕ) (d : ℤ) → all_of p l ≡ true → j < length l → p (get_or l j d) ≡ true
+unfolding all_of
+all_at p [] j d t h = absurd (omega arith)
+all_at p (v ∷ l) zero d t h = ((and-eq-true_iff (p v) (all_of p l)).0 t).0
+all_at p (v ∷ l) (suc j) d t h = all_at p l j d ((and-eq-true_iff (p v) (all_of p l)).0 t).1 (omega arith)
 
 pub values_parts : (l : List ℤ) → message_values l ≡ true → (1 ≤ length l) × (length l ≤ 8) × (all_of message_value l ≡ true)
 unfolding message_values
@@ -36,10 +55,6 @@ values_parts l t =
     let parts = (and-eq-true_iff (leb 1 (length l) && leb (length l) 8) (all_of message_value l)).0 t in
     let few = (and-eq-true_iff (leb 1 (length l)) (leb (length l) 8)).0 parts.0 in
     (leb-true 1 (length l) few.0, leb-true (length l) 8 few.1, parts.1)
-
--- their sum needs 36 bits
-pub sum_small : (l : List ℤ) → message_values l ≡ true → nat_abs (sum_of l) ≤ 2 ^ 35
-sum_small l t = let parts = values_parts l t in omega (arith, sum_near l parts.2)
 
 -- ---- they have a mean, and nothing else has
 

@@ -12,7 +12,7 @@ use Rattle.whole.specs.Whole.{eq_z, all_of}
 use Rattle.agreement.specs.declared.Agreed.{Agreed}
 use Rattle.agreement.specs.declared.Agreed.TheVariants.{Value, NoResult}
 use Rattle.agreement.specs.Agreement.{count_of, sum_of, mean_of, message_value, message_values, average, vote}
-use Rattle.agreement.proofs.Quotients.{exchange}
+use Rattle.agreement.proofs.Quotient.{exchange}
 use Rattle.agreement.proofs.Vote.{Outcome, outcome, one_outcome}
 
 -- the same instances in another order: the library's permutations

@@ -1,20 +1,33 @@
--- Loops over the instances: what a turn takes off the front of a count, and what it comes to at the end. What is left at turn j is `drop j`.
--- Assumes nothing.
-use mathlib.Core.Path.{◌≡◌, ap}
+-- Loops over the instances: what a turn takes off the front of a count and of a sum, and what each comes to at the end. What is left at turn j is
+-- `drop j`. Assumes nothing.
+use mathlib.Core.Path.{◌≡◌, ap, sym, ◌∙◌}
 use mathlib.Core.Bool.{cond}
 use mathlib.Core.List.{List}
 use Prim.Native.Nat.{ℕ, ◌+◌, ◌<◌, ◌≤◌}
-use lib.IntN.{ℤ, pos}
+use lib.IntN.{ℤ, pos, ◌+ℤ◌, +ℤ_assoc, +ℤ_idr}
 use lib.ListN.{length, drop, get_or}
 use Rattle.whole.specs.Whole.{eq_z}
 use Rattle.whole.proofs.Loops.{next, none_left}
-use Rattle.agreement.specs.Agreement.{count_of}
+use Rattle.agreement.specs.Agreement.{count_of, sum_of}
 
-module _ (l : List ℤ) (j : ℕ) where
-  pub count_turn : j < length l → (v : ℤ) → count_of v (drop j l) ≡ cond (eq_z (get_or l j (pos 0)) v) 1 0 + count_of v (drop (j + 1) l)
-  unfolding count_of
-  count_turn h v = ap (count_of v) (next l j (pos 0) h)
+-- ---- a turn at j, while there are instances left; X is the whole answer
 
-  pub count_end : length l ≤ j → (v : ℤ) → count_of v (drop j l) ≡ 0
+module _ (l : List ℤ) (j : ℕ) (h : j < length l) where
+  pub count_turn : (v : ℤ) → count_of v (drop j l) ≡ cond (eq_z (get_or l j (pos 0)) v) 1 0 + count_of v (drop (j + 1) l)
   unfolding count_of
-  count_end h v = ap (count_of v) (none_left l j h)
+  count_turn v = ap (count_of v) (next l j (pos 0) h)
+
+  pub sum_turn : (s : ℤ) {X : ℤ} → X ≡ s +ℤ sum_of (drop j l) → X ≡ (s +ℤ get_or l j (pos 0)) +ℤ sum_of (drop (j + 1) l)
+  unfolding sum_of
+  sum_turn s e = e ∙ ap (λ z. s +ℤ sum_of z) (next l j (pos 0) h) ∙ sym (+ℤ_assoc s (get_or l j (pos 0)) (sum_of (drop (j + 1) l)))
+
+-- ---- the end
+
+module _ (l : List ℤ) (j : ℕ) (h : length l ≤ j) where
+  pub count_end : (v : ℤ) → count_of v (drop j l) ≡ 0
+  unfolding count_of
+  count_end v = ap (count_of v) (none_left l j h)
+
+  pub sum_end : (s : ℤ) {X : ℤ} → X ≡ s +ℤ sum_of (drop j l) → s ≡ X
+  unfolding sum_of
+  sum_end s e = sym (e ∙ ap (λ z. s +ℤ sum_of z) (none_left l j h) ∙ +ℤ_idr s)

@@ -20,13 +20,9 @@ unfoldable pub sum_of : List ℤ → ℤ
 sum_of [] = pos 0
 sum_of (v ∷ l) = v +ℤ sum_of l
 
--- a sum divided by a count, the fraction dropped toward zero
-abbrev pub quotient_of : ℤ → ℕ → ℤ
-quotient_of sum count = quot_z sum (pos count)
-
--- the instances' sum, divided by how many they are
+-- divided by the count, the fraction dropped toward zero
 unfoldable pub mean_of : List ℤ → ℤ
-mean_of l = quotient_of (sum_of l) (length l)
+mean_of l = quot_z (sum_of l) (pos (length l))
 
 -- a number lies between two others, or is one of them
 abbrev pub between : ℤ → ℤ → ℤ → Bool

@@ -1,6 +1,7 @@
 // Agreement on the counting instances of one message: pick any, average, vote. The instances come in frame order; those of floats are patterns.
-ghost use Rattle.std.specs.Prelude.{◌≡◌, false, ◌<◌, ◌≤◌, eqb, length, take};
-ghost use Rattle.agreement.specs.Agreement.{pick_any, quotient_of, count_of, vote, agreed};
+ghost use Rattle.std.specs.Prelude.{◌≡◌, true, ◌≤◌, ◌^◌, nat_abs, length, take};
+ghost use Rattle.whole.specs.Whole.{all_of};
+ghost use Rattle.agreement.specs.Agreement.{message_value, message_values, sum_of, average, pick_any, count_of, vote, agreed};
 ghost use Rattle.agreement.specs.Floats.{left_of, float_mean, floats_agreed};
 
 use float::FloatMean;
@@ -22,12 +23,43 @@ fn pick_any(instances: &[i64]) -> Agreed
     Agreed::Value(instances[0])
 }
 
-// A sum divided by a count, the fraction dropped toward zero.
-pub fn quotient(sum: i64, count: u8) -> i64
-    requires { 0 < count }
-    ensures { result ≡ quotient_of sum count }
+// Whether each instance is a value that some message holds: at most 32 bits, signed or not.
+fn all_values(instances: &[i64]) -> bool
+    ensures { result ≡ all_of message_value instances.now }
 {
-    sum / (count as i64)
+    for j in 0..instances.len() {
+        let v = instances[j];
+        if (v < -2147483648) | (4294967295 < v) {
+            return false;
+        }
+    }
+    true
+}
+
+// The exact sum of one to eight instances: it needs 36 bits.
+fn sum_of(instances: &[i64]) -> i64
+    requires { message_values instances.now ≡ true }
+    ensures { (result ≡ sum_of instances.now) × (nat_abs result ≤ 2 ^ 35) }
+{
+    let mut s: i64 = 0;
+    for j in 0..instances.len() {
+        s += instances[j];
+    }
+    s
+}
+
+// The sum divided by the count, the fraction dropped toward zero.
+fn mean(instances: &[i64]) -> Agreed
+    ensures { result ≡ average instances.now }
+{
+    let n = instances.len();
+    if (n < 1) | (8 < n) {
+        return Agreed::NoResult;
+    }
+    if !all_values(instances) {
+        return Agreed::NoResult;
+    }
+    Agreed::Value(sum_of(instances) / (n as i64))
 }
 
 // How many instances carry a value.
@@ -69,13 +101,13 @@ fn voted(instances: &[i64]) -> Agreed
     ahead
 }
 
-// What the agreement of that number makes of the instances. No average: that takes no instances but their sum and number, by `quotient`.
+// What the agreement of that number makes of the instances.
 pub fn agree(agreement: u8, instances: &[i64]) -> Agreed
-    requires { eqb agreement 1 ≡ false }
     ensures { result ≡ agreed agreement instances.now }
 {
     match agreement {
         0 => pick_any(instances),
+        1 => mean(instances),
         2 => voted(instances),
         _ => Agreed::NoResult,
     }

@@ -6,7 +6,7 @@ use Rattle.whole.specs.Whole.{Bytes}
 use Rattle.store.specs.Node.{Node, node_size, node_of, node_with}
 use Rattle.node.specs.Calls.{left, outcome, send_of, invalidate_of, assemble_of, assembled, consumed_of}
 use Rattle.node.specs.Calls.{flag_answer, flag_place, deliver_of, receive_answer, received_place}
-use Rattle.closing.specs.Closing.{close_by_shares}
+use Rattle.closing.specs.Closing.{close_of}
 use Rattle.node.specs.Load.{load_of}
 
 -- ---- calls
@@ -81,7 +81,7 @@ next n (assemble f b) = (assemble_of n f (length b)).node
 next n (consumed f) = (consumed_of n f).node
 next n (read_flag m p) = n
 next n (deliver f valid d) = (deliver_of n f valid d).node
-next n close = node_with n (close_by_shares n)
+next n close = node_with n (close_of n)
 next n (receive m p) = n
 
 -- the node after a list of calls, one after the other
@@ -104,7 +104,7 @@ Does b (assemble f d) s e = (left s.answer e ≡ assemble_of (node_of b) f (leng
 Does b (consumed f) s e = (left s.answer e ≡ consumed_of (node_of b) f) × (s.lent ≡ nothing)
 Does b (read_flag m p) s e = (e ≡ b) × ((s.answer ≡ flag_answer (node_of b).layout m) × (s.lent ≡ flag (flag_place (node_of b) m p)))
 Does b (deliver f valid d) s e = (left s.answer e ≡ deliver_of (node_of b) f valid d) × (s.lent ≡ nothing)
-Does b close s e = (left s.answer e ≡ outcome 0 (close_by_shares (node_of b)) (node_of b)) × (s.lent ≡ nothing)
+Does b close s e = (left s.answer e ≡ outcome 0 (close_of (node_of b)) (node_of b)) × (s.lent ≡ nothing)
 Does b (receive m p) s e = (e ≡ b) × ((s.answer ≡ receive_answer (node_of b) m) × (s.lent ≡ value (received_place (node_of b) m p)))
 
 -- and of a load of a file, which answers a

@@ -1,3 +1,3 @@
-pub mod Agreed
+pub mod Instances
 pub mod Loops
 pub mod Rounds

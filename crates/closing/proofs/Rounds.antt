@@ -1,56 +1,62 @@
 -- A closing, loop by loop. The places of a message are gone through from its first: what is left of its instances, and of the question whether any
 -- frame came, is what the cells ahead say. Messages are closed one after the other, each as the node was when the closing began: a closing reads the
--- layout, the deliveries and its own message's state and share, which are not replaced before it is closed. Then the deliveries of the layout's frames are
--- forgotten.
+-- layout, the deliveries and its own message's state, which is not replaced before it is closed. Then the deliveries of the layout's frames are forgotten.
 -- Assumes nothing.
 use mathlib.Core.Path.{◌≡◌, refl, ap, ap₂, sym, ◌∙◌}
-use mathlib.Core.Bool.{Bool, true, false, not, cond, ◌&&◌, and-eq-true_iff, and-true, and-false}
+use mathlib.Core.Bool.{Bool, true, false, not, cond, ◌&&◌, and-eq-true_iff, and-true, and-false, false≢true}
 use mathlib.Core.List.{List, [], ◌∷◌, ◌++◌, map}
 use Prim.Native.Nat.{ℕ, zero, suc, ◌+◌, ◌<◌, ◌≤◌}
 use native.Mathlib.Nat.{zero-add}
+use native.Mathlib.Decide.{dec_lt}
 use native.Mathlib.Omega.{arith}
-use lib.Dec.{eqb, ltb}
+use lib.Dec.{ltb}
 use lib.IntN.{ℤ}
-use lib.ListN.{length, get_or, drop, replicate}
+use lib.ListN.{length, drop, replicate, get_or-eq_default}
 use borrow.Author.Tests.{ltb-true, lt-ltb}
 use Rattle.whole.specs.Whole.{all_of}
+use Rattle.record.specs.declared.Field.{Field as FieldRecord}
 use Rattle.store.specs.declared.Message.{Message}
 use Rattle.store.specs.declared.MessageState.{MessageState}
-use Rattle.store.specs.declared.Share.{Share}
 use Rattle.store.specs.Node.{
   Delivery,
   Node,
   frame_count,
   message_count,
-  is_float,
   is_sent,
-  is_averaged,
   layout_of,
   state_of,
   node_of,
   no_delivery,
   no_state,
-  no_share,
   message_at,
   laid_at,
   state_at,
-  share_at,
   with_status,
   with_deliveries,
   with_states,
-  with_shares,
   with_state,
-  with_share,
   node_with,
 }
 use Rattle.store.proofs.Laws.{deliveries_length}
-use Rattle.message.specs.Messages.{agreed_by, agreed_on, settled, settled_by}
+use Rattle.message.specs.Messages.{agreed_by, agreed_on, settled}
 use Rattle.own.specs.declared.Owner.{Owner}
 use Rattle.own.specs.Own.{chosen, changed, first_place, end_place, cell_at, owns}
-use Rattle.instance.specs.Instance.{came, status_set, counts, value_in, instances, none_came}
-use Rattle.closing.specs.Closing.{closed_state, closed_from_share, is_received, close_messages, forget}
+use Rattle.closing.specs.Closing.{came, status_set, counts, value_in, instances, none_came, closed_state, is_received, close_messages, forget}
 use Rattle.closing.proofs.Loops.{rest_stays, changed_to, not_yet, changed_turn, changed_skip, changed_end}
 use Rattle.own.proofs.Ahead.{ahead, first_ahead, last_ahead, own_ahead, other_ahead, fields_ahead}
+
+-- ---- one field
+
+-- a field that came is in a frame of the memory
+pub came_known : (b : List ℕ) (x : FieldRecord) → came (state_of b) x ≡ true → x.frame < 32
+unfolding came
+came_known b x here = go (dec_lt x.frame 32)
+  where
+    go : Dec (x.frame < 32) → x.frame < 32
+    go (yes h) = h
+    go (no h) =
+        let none = get_or-eq_default (state_of b).deliveries no_delivery {n = x.frame} (omega (arith, deliveries_length b)) in
+        absurd (false≢true (rw none at here))
 
 -- ---- the places of a message
 
@@ -118,10 +124,6 @@ module _ (n : Node) (m : ℕ) where
 
 -- ---- one message
 
--- a received one that is not averaged is not agreed on by the mean of whole numbers
-pub not_averaged : {g h : Message} → g ≡ h → is_sent h ≡ false → is_averaged h ≡ false → (eqb g.agreement 1 && not (is_float g)) ≡ false
-not_averaged read unsent other = rw read (rw unsent at other)
-
 module _ (n : Node) (m : ℕ) (s : MessageState) where
   pub closed_none : instances n m ≡ [] → closed_state n m s ≡ with_status (cond (none_came n m) 21 22) s
   unfolding closed_state
@@ -143,115 +145,52 @@ module _ (n : Node) (m : ℕ) (s : MessageState) where
   unfolding closed_state
   closed_by layout state came counting e = e ∙ rw (layout, state, came, counting) refl
 
-  -- so does what is read of it and its share
-  pub averaged_by : {g : Message} {x t : MessageState} {p : Share} → g ≡ message_at n.layout m → x ≡ s → p ≡ share_at n.state m
-      → t ≡ settled_by g x p → t ≡ settled_by (message_at n.layout m) s (share_at n.state m)
-  averaged_by layout state share e = e ∙ rw (layout, state, share) refl
-
-  -- it is closed by its share just if it is averaged
-  closed_averaged : is_averaged (message_at n.layout m) ≡ true
-      → settled_by (message_at n.layout m) s (share_at n.state m) ≡ closed_from_share n m s
-  unfolding closed_from_share
-  closed_averaged test = rw test refl
-
-  closed_gathered : is_averaged (message_at n.layout m) ≡ false → closed_state n m s ≡ closed_from_share n m s
-  unfolding closed_from_share
-  closed_gathered test = rw test refl
-
-  -- the states and the shares of other messages do not matter
-  closed_apart : (l : List MessageState) (q : List Share) → get_or q m no_share ≡ share_at n.state m
-      → closed_from_share (node_with n (with_shares (with_states n.state l) q)) m s ≡ closed_from_share n m s
-  unfolding closed_from_share closed_state none_came instances counts came status_set value_in
-  closed_apart l q own =
-      ap (λ (p : Share). cond (is_averaged (message_at n.layout m)) (settled_by (message_at n.layout m) s p) (closed_state n m s)) own
+  -- the states of other messages do not matter
+  closed_apart : (l : List MessageState) → closed_state (node_with n (with_states n.state l)) m s ≡ closed_state n m s
+  unfolding closed_state none_came instances counts came status_set value_in
+  closed_apart l = refl
 
 -- ---- all messages
 
 module _ (n : Node) where
-  -- the messages whose shares are cleared
-  abbrev cleared : ℕ → Bool
-  cleared m = is_received n.layout m && is_averaged (message_at n.layout m)
-
-  -- the node with other states and shares of its messages
-  abbrev holding : List MessageState → List Share → Node
-  holding l q = node_with n (with_shares (with_states n.state l) q)
-
   -- the first k are closed
-  abbrev states_to : ℕ → List MessageState
-  states_to k = changed_to (is_received n.layout) (closed_from_share n) n.state.messages k
-
-  abbrev shares_to : ℕ → List Share
-  shares_to k = changed_to cleared (λ m p. no_share) n.state.shares k
-
   abbrev pub closed_to : ℕ → Node
-  closed_to k = holding (states_to k) (shares_to k)
+  closed_to k = node_with n (with_states n.state (changed_to (is_received n.layout) (closed_state n) n.state.messages k))
 
-  module _ (k : ℕ) (room : k < length n.state.messages) (cell : k < length n.state.shares) {now : Node} {g : Message} (so_far : now ≡ closed_to k)
-      (read : g ≡ message_at now.layout k) (known : k < message_count n.layout) where
-    -- what is read of message k is as it was
+  module _ (k : ℕ) (room : k < length n.state.messages) {now : Node} {g : Message} (so_far : now ≡ closed_to k)
+      (read : g ≡ message_at now.layout k) where
     message_then : g ≡ message_at n.layout k
     message_then = read ∙ ap (λ (i : Node). message_at i.layout k) so_far
 
     state_then : state_at now.state k ≡ state_at n.state k
-    state_then =
-        ap (λ (i : Node). state_at i.state k) so_far ∙ not_yet (is_received n.layout) (closed_from_share n) n.state.messages k no_state room
+    state_then = ap (λ (i : Node). state_at i.state k) so_far ∙ not_yet (is_received n.layout) (closed_state n) n.state.messages k no_state room
 
-    closed_then : closed_from_share now k (state_at now.state k) ≡ closed_from_share n k (state_at n.state k)
-    closed_then =
-        ap₂ (λ (i : Node) (x : MessageState). closed_from_share i k x) so_far state_then
-        ∙ closed_apart n k (state_at n.state k) (states_to k) (shares_to k) (not_yet cleared (λ m p. no_share) n.state.shares k no_share cell)
-
-    received : is_sent g ≡ false → is_received n.layout k ≡ true
-    unfolding is_received
-    received test = rw (lt-ltb k (message_count n.layout) known, ← message_then, test) refl
-
-    -- an averaged one, one that is not averaged, and a sent one
-    pub average_turn : {after : Node} → is_sent g ≡ false → is_averaged g ≡ true
-        → after
-        ≡ node_with now
-        (with_share (with_state now.state k (settled_by (message_at now.layout k) (state_at now.state k) (share_at now.state k))) k no_share)
-        → after ≡ closed_to (k + 1)
-    average_turn unsent averaged put =
-        let same = closed_averaged now k (state_at now.state k) (rw read at averaged) ∙ closed_then in
-        let clears : cleared k ≡ true = rw (received unsent, ← message_then, averaged) refl in
-        put
-        ∙ ap₂ (λ (i : Node) (x : MessageState). node_with i (with_share (with_state i.state k x) k no_share)) so_far same
-        ∙ ap₂ holding
-        (changed_turn (is_received n.layout) (closed_from_share n) n.state.messages k no_state room (received unsent))
-        (changed_turn cleared (λ m p. no_share) n.state.shares k no_share cell clears)
-
-    pub close_turn : {after : Node} → is_sent g ≡ false → is_averaged g ≡ false
+    pub close_turn : {after : Node} → k < message_count n.layout → is_sent g ≡ false
         → after ≡ node_with now (with_state now.state k (closed_state now k (state_at now.state k))) → after ≡ closed_to (k + 1)
-    close_turn unsent other put =
-        let same = closed_gathered now k (state_at now.state k) (rw read at other) ∙ closed_then in
-        let stays : cleared k ≡ false = rw (received unsent, ← message_then, other) refl in
+    unfolding is_received
+    close_turn known received put =
+        let test : is_received n.layout k ≡ true = rw (lt-ltb k (message_count n.layout) known, ← message_then, received) refl in
+        let same : closed_state now k (state_at now.state k) ≡ closed_state n k (state_at n.state k) =
+        ap₂ (λ (i : Node) (x : MessageState). closed_state i k x) so_far state_then ∙ closed_apart n k (state_at n.state k) _ in
         put
         ∙ ap₂ (λ (i : Node) (x : MessageState). node_with i (with_state i.state k x)) so_far same
-        ∙ ap₂ holding
-        (changed_turn (is_received n.layout) (closed_from_share n) n.state.messages k no_state room (received unsent))
-        (changed_skip cleared (λ m p. no_share) n.state.shares k no_share cell stays)
+        ∙ ap (λ (l : List MessageState). node_with n (with_states n.state l))
+        (changed_turn (is_received n.layout) (closed_state n) n.state.messages k no_state room test)
 
-    pub close_skip : is_sent g ≡ true → now ≡ closed_to (k + 1)
+    pub close_skip : k < message_count n.layout → is_sent g ≡ true → now ≡ closed_to (k + 1)
     unfolding is_received
-    close_skip sent =
+    close_skip known sent =
         let test : is_received n.layout k ≡ false = rw (lt-ltb k (message_count n.layout) known, ← message_then, sent) refl in
-        let stays : cleared k ≡ false = rw test refl in
         so_far
-        ∙ ap₂ holding
-        (changed_skip (is_received n.layout) (closed_from_share n) n.state.messages k no_state room test)
-        (changed_skip cleared (λ m p. no_share) n.state.shares k no_share cell stays)
+        ∙ ap (λ (l : List MessageState). node_with n (with_states n.state l))
+        (changed_skip (is_received n.layout) (closed_state n) n.state.messages k no_state room test)
 
-  received_known : (j : ℕ) → is_received n.layout j ≡ true → j < message_count n.layout
-  unfolding is_received
-  received_known j t = ltb-true j (message_count n.layout) ((and-eq-true_iff (ltb j (message_count n.layout)) _).0 t).0
-
-  pub close_end : (k : ℕ) → message_count n.layout ≤ k → closed_to k ≡ node_with n (close_messages closed_from_share n)
-  unfolding close_messages
+  pub close_end : (k : ℕ) → message_count n.layout ≤ k → closed_to k ≡ node_with n (close_messages n)
+  unfolding close_messages is_received
   close_end k over =
-      ap₂ holding
-      (changed_end (is_received n.layout) (closed_from_share n) n.state.messages k (λ j t. omega (arith, received_known j t)))
-      (changed_end cleared (λ m p. no_share) n.state.shares k
-      (λ j t. omega (arith, received_known j ((and-eq-true_iff (is_received n.layout j) _).0 t).0)))
+      ap (λ (l : List MessageState). node_with n (with_states n.state l))
+      (changed_end (is_received n.layout) (closed_state n) n.state.messages k
+      (λ j t. omega (arith, ltb-true j (message_count n.layout) ((and-eq-true_iff (ltb j (message_count n.layout)) _).0 t).0)))
 
 -- ---- the deliveries
 

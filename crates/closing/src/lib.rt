@@ -1,11 +1,45 @@
 // The closing of a round: each received message by itself, then the round's deliveries are forgotten.
-ghost use Rattle.std.specs.Prelude.{◌≡◌, ◌<◌, ◌≤◌, length, take, false, true};
-ghost use Rattle.store.specs.Node.{node_size, layout_of, state_of, node_of, is_sent, is_averaged, message_at, state_at, share_at, no_share, with_state, with_share, node_with};
-ghost use Rattle.instance.specs.Instance.{instances, none_came};
-ghost use Rattle.message.specs.Messages.{settled_by};
-ghost use Rattle.closing.specs.Closing.{closed_state, closed_from_share, close_messages, close_by_shares};
+ghost use Rattle.std.specs.Prelude.{◌≡◌, ◌<◌, ◌≤◌, length, take};
+ghost use Rattle.store.specs.Node.{node_size, state_of, node_of, state_at, with_state, node_with};
+ghost use Rattle.closing.specs.Closing.{came, status_set, value_in, instances, none_came, closed_state, close_messages, close_of};
 
 use own::Owner;
+use record::Field;
+use store::Message;
+
+// On any memory a field may name a frame that the memory has not: none came.
+fn did_come(node: &[u8], x: Field) -> bool
+    requires { length node.now ≡ node_size }
+    ensures { result ≡ came (state_of node.now) x }
+{
+    if x.frame < 32 {
+        return !(store::mark_at(node, x.frame as usize) == 0);
+    }
+    false
+}
+
+fn is_status_set(node: &[u8], x: Field) -> bool
+    requires { (x.frame < 32) × (length node.now ≡ node_size) }
+    ensures { result ≡ status_set (node_of node.now) x }
+{
+    if !(x.status == 1) {
+        return true;
+    }
+    let f = x.frame as usize;
+    let h = store::frame_at(node, f);
+    packing::unpack(store::data_at(node, f), h.order == 1, x.place, 1) == 1
+}
+
+fn value_in(node: &[u8], g: Message, x: Field) -> i64
+    requires { (x.frame < 32) × (length node.now ≡ node_size) }
+    ensures { result ≡ value_in (node_of node.now) g x }
+{
+    let f = x.frame as usize;
+    let h = store::frame_at(node, f);
+    let n = store::data_length(h);
+    let pattern = packing::unpack_in(store::room_at(node, f), n, h.order == 1, x.start, g.width);
+    packing::value_of(pattern, g.width, g.sign == 1)
+}
 
 // What was gathered of a message: how many instances count, and whether none of its frames came.
 #[derive(Drop)]
@@ -30,10 +64,10 @@ fn gather(node: &[u8], message: u8, values: &mut [i64; 8]) -> Gathered
         let d = own::cell_at(node, owner, i);
         if own::owns(node, owner, d) {
             let x = store::laid_at(node, d);
-            if instance::did_come(node, x) {
+            if did_come(node, x) {
                 none = false;
-                if instance::is_status_set(node, x) {
-                    values[number] = instance::value_in(node, g, x);
+                if is_status_set(node, x) {
+                    values[number] = value_in(node, g, x);
                     number += 1;
                 }
             }
@@ -42,10 +76,9 @@ fn gather(node: &[u8], message: u8, values: &mut [i64; 8]) -> Gathered
     Gathered { number, none }
 }
 
-// A message after the round, one that is not averaged. What the layout says of it and its state are read when the fields are through, so that they need not
-// be kept meanwhile.
+// One message after the round. What the layout says of it and its state are read when the fields are through, so that they need not be kept meanwhile.
 fn close_message(node: &mut [u8], m: usize)
-    requires { (m < 32) × (is_averaged (message_at (layout_of node.old) m) ≡ false) × (is_sent (message_at (layout_of node.old) m) ≡ false) × (length node.old ≡ node_size) }
+    requires { (m < 32) × (length node.old ≡ node_size) }
     ensures { node_of node.new ≡ node_with (node_of node.old) (with_state (state_of node.old) m (closed_state (node_of node.old) m (state_at (state_of node.old) m))) }
 {
     let mut values = [0i64; 8];
@@ -57,38 +90,22 @@ fn close_message(node: &mut [u8], m: usize)
     store::put_state(node, m, t);
 }
 
-// An averaged message after the round: its share says all, and no field is looked at.
-fn close_averaged(node: &mut [u8], m: usize)
-    requires { (m < 32) × (length node.old ≡ node_size) }
-    ensures { node_of node.new ≡ node_with (node_of node.old) (with_share (with_state (state_of node.old) m (settled_by (message_at (layout_of node.old) m) (state_at (state_of node.old) m) (share_at (state_of node.old) m))) m no_share) }
-{
-    let g = store::message_at(&node[..], m);
-    let s = store::state_at(&node[..], m);
-    let p = store::share_at(&node[..], m);
-    store::put_state(&mut *node, m, message::settled_by(g, s, p));
-    store::put_share(node, m, store::no_share());
-}
-
 fn close_messages(node: &mut [u8])
     requires { length node.old ≡ node_size }
-    ensures { node_of node.new ≡ node_with (node_of node.old) (close_messages closed_from_share (node_of node.old)) }
+    ensures { node_of node.new ≡ node_with (node_of node.old) (close_messages (node_of node.old)) }
 {
     let messages = store::counts_of(&node[..]).messages;
     for m in 0..messages {
         let g = store::message_at(&node[..], m);
         if !(g.direction == 1) {
-            if store::is_averaged(g) {
-                close_averaged(&mut *node, m);
-            } else {
-                close_message(&mut *node, m);
-            }
+            close_message(&mut *node, m);
         }
     }
 }
 
 pub fn close_round(node: &mut [u8])
     requires { length node.old ≡ node_size }
-    ensures { node_of node.new ≡ node_with (node_of node.old) (close_by_shares (node_of node.old)) }
+    ensures { node_of node.new ≡ node_with (node_of node.old) (close_of (node_of node.old)) }
 {
     close_messages(&mut *node);
     let frames = store::counts_of(&node[..]).frames;

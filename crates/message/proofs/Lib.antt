@@ -1,5 +1,4 @@
 pub mod Held
-pub mod Averaged
 pub mod FloatRows
 pub mod Passed
 pub mod FilterWords

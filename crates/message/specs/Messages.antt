@@ -1,16 +1,15 @@
 -- What a call or a closing makes of one message: its state from the one before, by what the layout says of it.
 -- Assumes nothing.
-use Rattle.std.specs.Prelude.{Bool, true, not, cond, ◌&&◌, List, [], ◌∷◌, ℕ, eqb, ℤ}
-use Rattle.packing.specs.Values.{in_range, value_of, pattern_of}
+use Rattle.std.specs.Prelude.{Bool, not, cond, ◌&&◌, List, [], ◌∷◌, ℕ, ℤ}
+use Rattle.packing.specs.Values.{in_range, pattern_of}
 use Rattle.float.specs.Patterns.{aside}
-use Rattle.agreement.specs.Agreement.{quotient_of, agreed}
+use Rattle.agreement.specs.Agreement.{agreed}
 use Rattle.agreement.specs.Floats.{floats_agreed}
 use Rattle.agreement.specs.declared.Agreed.{Agreed}
 use Rattle.agreement.specs.declared.Agreed.TheVariants.{Value, NoResult}
 use Rattle.filter.specs.Filter.{passes}
 use Rattle.store.specs.declared.Message.{Message}
 use Rattle.store.specs.declared.MessageState.{MessageState}
-use Rattle.store.specs.declared.Share.{Share}
 use Rattle.store.specs.Node.{is_signed, is_float, held_value, with_valid, with_status, with_held}
 
 -- ---- sending
@@ -71,10 +70,3 @@ agreed_on g s (Value v) = filtered g s v
 abbrev pub settled : Message → MessageState → Bool → List ℤ → MessageState
 settled g s none [] = with_status (cond none (status_of not_received) (status_of invalid)) s
 settled g s none (v ∷ l) = agreed_on g s (agreed_by g (v ∷ l))
-
--- the same of an averaged message, by what its fields gave in the round: the sum of the values that count, their number, and how many frames came
-unfoldable pub settled_by : Message → MessageState → Share → MessageState
-settled_by g s p =
-    cond (eqb p.number 0)
-    (with_status (cond (eqb p.came 0) (status_of not_received) (status_of invalid)) s)
-    (filtered g s (quotient_of (value_of true 64 p.sum) p.number))

@@ -1,12 +1,12 @@
 // What a call or a closing makes of one message and of one field, by value: no memory.
-ghost use Rattle.std.specs.Prelude.{◌≡◌, false, not, cond, ◌&&◌, eqb};
+ghost use Rattle.std.specs.Prelude.{◌≡◌, cond};
 ghost use Rattle.packing.specs.Values.{pattern_of};
-ghost use Rattle.store.specs.Node.{is_float, with_status, with_held};
-ghost use Rattle.message.specs.Messages.{can_hold, offered, invalidated, agreed_by, filtered, agreed_on, settled, settled_by};
+ghost use Rattle.store.specs.Node.{with_status, with_held};
+ghost use Rattle.message.specs.Messages.{can_hold, offered, invalidated, agreed_by, filtered, agreed_on, settled};
 ghost use Rattle.message.specs.Fields.{stage_after, is_gone, writes};
 
 use agreement::Agreed;
-use store::{Field, Frame, Message, MessageState, Share, Stage};
+use store::{Field, Frame, Message, MessageState, Stage};
 
 // What happens to a field's stage.
 #[derive(Drop)]
@@ -86,9 +86,8 @@ fn filtered_state(g: Message, s: MessageState, agreed: i64) -> MessageState
     t
 }
 
-// What the counting instances agree on, but for the average of whole numbers.
+// What the counting instances agree on.
 fn agree_by(g: Message, instances: &[i64]) -> Agreed
-    requires { (eqb g.agreement 1 && not (is_float g)) ≡ false }
     ensures { result ≡ agreed_by g instances.now }
 {
     if g.sign == 2 { // floats
@@ -108,24 +107,12 @@ fn agreed_state(g: Message, s: MessageState, agreed: Agreed) -> MessageState
 
 // The state after a round in which those instances count, and in which none of its frames came or some did.
 pub fn settled_state(g: Message, s: MessageState, none: bool, instances: &[i64]) -> MessageState
-    requires { (eqb g.agreement 1 && not (is_float g)) ≡ false }
     ensures { result ≡ settled g s none instances.now }
 {
     if instances.len() == 0 {
         return with_status(s, if none { 21 } else { 22 });
     }
     agreed_state(g, s, agree_by(g, instances))
-}
-
-// The same of an averaged message, whose fields gave that share in the round.
-pub fn settled_by(g: Message, s: MessageState, p: Share) -> MessageState
-    ensures { result ≡ settled_by g s p }
-{
-    if p.number == 0 {
-        return with_status(s, if p.came == 0 { 21 } else { 22 });
-    }
-    let sum = packing::value_of_long(p.sum);
-    filtered_state(g, s, agreement::quotient(sum, p.number))
 }
 
 // ---- a field

@@ -4,7 +4,7 @@ ghost use Rattle.calls.specs.Relations.{send, invalidate, assemble, consumed, re
 ghost use Rattle.calls.specs.Relations.{nothing, buffer as a_buffer, flag as a_flag, value as a_value, sees, Does, Loads};
 
 // MONDGURT_NODE bytes.
-type Node = [u8; 3171];
+type Node = [u8; 2851];
 
 #[unsafe(no_mangle)]
 pub extern "C" fn mondgurt_load(node: &mut Node, file: &[u8]) -> u32

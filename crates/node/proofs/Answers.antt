@@ -9,7 +9,7 @@ use lib.IntN.{ℤ}
 use borrow.Author.Tests.{ltb-true, eqb-true, not-false}
 use Rattle.store.specs.Node.{Layout, Node, frame_count, message_count, is_sent, has_status_bit, is_sent_frame, frame_at, message_at}
 use Rattle.message.specs.Messages.{can_hold}
-use Rattle.node.specs.Calls.{send_answer, invalidate_answer, assemble_answer, consumed_answer, deliver_answer, receive_answer}
+use Rattle.node.specs.Calls.{send_answer, invalidate_answer, assemble_answer, deliver_answer, receive_answer}
 
 -- a message or frame that the code found to be one of the layout is one that the memory has a cell for
 pub counted : (i number : ℕ) {r : Bool} → r ≡ ltb i (min number 32) → not r ≡ false → i < 32
@@ -58,10 +58,6 @@ module _ (l : Layout) where
       let access = passed (not (is_sent (message_at l m))) _ _ (known m l.message_number _ _ e).1 in
       not-false _ (passed (not (has_status_bit (message_at l m))) _ _ access.1).0
 
-  pub consumed_access : (f : ℕ) → consumed_answer l f ≡ 0 → is_sent_frame (frame_at l f) ≡ true
-  unfolding consumed_answer
-  consumed_access f e = not-false _ (passed (not (is_sent_frame (frame_at l f))) _ _ (known f l.frame_number _ _ e).1).0
-
   pub deliver_tests : (f size : ℕ) → deliver_answer l f size ≡ 0 → (f < frame_count l) × (size ≡ (frame_at l f).length)
   unfolding deliver_answer
   deliver_tests f size e =
@@ -82,10 +78,6 @@ module _ (n : Node) where
       let access = passed (not (is_sent_frame (frame_at n.layout f))) _ _ number.1 in
       let value = passed (not (eqb size (frame_at n.layout f).length)) _ _ access.1 in
       eqb-true size (frame_at n.layout f).length (not-false _ value.0)
-
-  pub assemble_access : (f size : ℕ) → assemble_answer n f size ≡ 0 → is_sent_frame (frame_at n.layout f) ≡ true
-  unfolding assemble_answer
-  assemble_access f size e = not-false _ (passed (not (is_sent_frame (frame_at n.layout f))) _ _ (known f n.layout.frame_number _ _ e).1).0
 
   pub receive_tests : (m : ℕ) → receive_answer n m ≡ 0 → m < message_count n.layout
   unfolding receive_answer

@@ -1,5 +1,5 @@
 -- Every call keeps a sound node sound, whatever it is given and whether it refuses or not. No call touches the layout, so only the state is to be
--- shown: each of its four lists is as long as before, its cells are sound where those that took another's place are, and past the layout's numbers none
+-- shown: each of its three lists is as long as before, its cells are sound where those that took another's place are, and past the layout's numbers none
 -- is written. A send's tests say that the message is sent, so that its fields may wait, and can hold the value, which then is that of its pattern; without
 -- status bit its filter is True, and an invalidation is refused. A delivery has its frame's length, and a closing holds only values on which instances
 -- that it can hold agree.
@@ -56,14 +56,12 @@ use Rattle.message.proofs.Passed.{true_passes}
 use Rattle.own.specs.declared.Owner.{Owner}
 use Rattle.own.specs.Own.{changed, is_in, cells_of}
 use Rattle.node.specs.Calls.{outcome, send_answer, send_of, invalidate_answer, invalidate_of}
-use Rattle.node.specs.Calls.{assemble_answer, assemble_of, consumed_answer, consumed_of, deliver_answer, kept, exchanged, deliver_of}
-use Rattle.instance.specs.Instance.{instances, none_came}
-use Rattle.closing.specs.Closing.{closed_state, is_received, close_messages, forget, close_with, close_by_shares}
+use Rattle.node.specs.Calls.{assemble_answer, assemble_of, consumed_answer, consumed_of, deliver_answer, kept, deliver_of}
+use Rattle.closing.specs.Closing.{instances, none_came, closed_state, is_received, close_messages, forget, close_of}
 use Rattle.node.specs.Sound.{SoundDelivery, IsStatus, SoundMessageState, IsStage, SoundStage, SoundState, Sound}
 use Rattle.own.proofs.Lists.{by_test, changed_length, changed_at}
 use Rattle.own.proofs.Owners.{fields_named}
 use Rattle.own.proofs.Tables.{alike_at}
-use Rattle.node.proofs.Shares.{FreshShares, shares_stay, shares_exchanged, shares_closed, closing_means}
 use Rattle.node.proofs.Answers.{
   send_tests,
   send_access,
@@ -73,7 +71,7 @@ use Rattle.node.proofs.Answers.{
   deliver_tests,
   deliver_access,
 }
-use Rattle.closing.proofs.Agreed.{agreed_in_message}
+use Rattle.closing.proofs.Instances.{agreed_in_message}
 
 -- ---- a list of cells, the first k of which are sound, and the others hold nothing
 
@@ -242,7 +240,7 @@ stage_kept g Change.Consume t sent s = record { stage = goes t s.stage; always_g
     goes Loaded h = inr (inr refl)
     goes (Gone k) h = h
 
--- ---- the four lists of a state
+-- ---- the three lists of a state
 
 abbrev Deliveries : Layout → List Delivery → Type 0
 Deliveries l = Cells (λ f y. SoundDelivery (frame_at l f) y) no_delivery l.frame_number 32
@@ -253,21 +251,18 @@ States l = Cells (λ m s. SoundMessageState (message_at l m) s) no_state l.messa
 abbrev Stages : Layout → List Stage → Type 0
 Stages l = Cells (λ d t. SoundStage (message_at l (laid_at l d).message) t) no_stage l.field_number 128
 
-sound_state : {l : Layout} {s : State} → Deliveries l s.deliveries → States l s.messages → Stages l s.stages → FreshShares l s
-    → SoundState l s
-sound_state a b c d =
+sound_state : {l : Layout} {s : State} → Deliveries l s.deliveries → States l s.messages → Stages l s.stages → SoundState l s
+sound_state a b c =
     record {
       delivery_cells = a.all;
       message_cells = b.all;
       stage_cells = c.all;
-      share_cells = d.cells;
       deliveries = a.each;
       no_deliveries = a.rest;
       messages = b.each;
       no_states = b.rest;
       stages = c.each;
       no_stages = c.rest;
-      shares = d.fresh;
     }
 
 -- ---- the calls
@@ -313,8 +308,7 @@ module _ {n : Node} (s : Sound n) where
       let after = offered_kept v value (s.state.messages m known) sent (λ none. heard (eqb-true _ 0 (not-false _ none))) in
       sound_state deliveries_stay (one_state m _ known after)
       (stages_move Change.Send (Owner.Message m)
-      (λ d mine. rw (eqb-true _ m ((fields_named s.layout (Owner.Message m) d).0 mine).1) sent))
-      (shares_stay s))
+      (λ d mine. rw (eqb-true _ m ((fields_named s.layout (Owner.Message m) d).0 mine).1) sent)))
 
   pub invalidate_kept : (m : ℕ) → Sound (invalidate_of n m).node
   unfolding invalidate_of
@@ -324,29 +318,29 @@ module _ {n : Node} (s : Sound n) where
       let bit = invalidate_status n.layout m e in
       let sent = invalidate_access n.layout m e in
       let after = valid_kept 0 (omega arith) sent (λ none. absurd (true≢false (sym bit ∙ none))) (s.state.messages m known) in
-      sound_state deliveries_stay (one_state m _ known after) stages_stay (shares_stay s))
+      sound_state deliveries_stay (one_state m _ known after) stages_stay)
 
   pub assemble_kept : (f size : ℕ) → Sound (assemble_of n f size).node
   unfolding assemble_of
   assemble_kept f size =
       either_way (assemble_answer n f size)
-      (λ e. sound_state deliveries_stay states_stay (stages_move Change.Load (Owner.Frame f) (λ d mine. tt)) (shares_stay s))
+      (λ e. sound_state deliveries_stay states_stay (stages_move Change.Load (Owner.Frame f) (λ d mine. tt)))
 
   pub consumed_kept : (f : ℕ) → Sound (consumed_of n f).node
   unfolding consumed_of
   consumed_kept f =
       either_way (consumed_answer n.layout f)
-      (λ e. sound_state deliveries_stay states_stay (stages_move Change.Consume (Owner.Frame f) (λ d mine. tt)) (shares_stay s))
+      (λ e. sound_state deliveries_stay states_stay (stages_move Change.Consume (Owner.Frame f) (λ d mine. tt)))
 
   pub deliver_kept : (f : ℕ) (ok : Bool) (d : List ℕ) → Sound (deliver_of n f ok d).node
-  unfolding deliver_of exchanged
+  unfolding deliver_of
   deliver_kept f ok d =
       either_way (deliver_answer n.layout f (length d))
       (λ e. let (known, size) = deliver_tests n.layout f (length d) e in
       let here : f < n.layout.frame_number = omega arith in
       let received = deliver_access n.layout f (length d) e in
       let after = delivery_kept (frame_at n.layout f) (delivery_at n.state f) d size received (s.state.deliveries f here) in
-      by_test (SoundState n.layout) ok (λ t. sound_state (one_delivery f _ here after) states_stay stages_stay (shares_exchanged s f d)) (λ t. s.state))
+      by_test (SoundState n.layout) ok (λ t. sound_state (one_delivery f _ here after) states_stay stages_stay) (λ t. s.state))
 
   closed_kept : (m : ℕ) → m < n.layout.message_number → is_received n.layout m ≡ true
       → SoundMessageState (message_at n.layout m) (closed_state n m (state_at n.state m))
@@ -361,9 +355,9 @@ module _ {n : Node} (s : Sound n) where
   unfolding is_received
   not_past m past t = omega (arith, ltb-true m (message_count n.layout) ((and-eq-true_iff (ltb m (message_count n.layout)) _).0 t).0)
 
-  pub close_kept : Sound (node_with n (close_by_shares n))
-  unfolding close_with forget close_messages
+  pub close_kept : Sound (node_with n (close_of n))
+  unfolding close_of forget close_messages
   close_kept =
       let forgotten = some_kept _ _ _ _ s.layout.few_frames deliveries_stay _ _ (λ f l t. none_delivered _) (λ f past t. refl) in
       let closed = some_kept _ _ _ _ s.layout.few_messages states_stay _ _ closed_kept (λ m past t. absurd (not_past m past t)) in
-      record { layout = s.layout; state = rw (closing_means s) (sound_state forgotten closed stages_stay (shares_closed s closed_state)) }
+      record { layout = s.layout; state = sound_state forgotten closed stages_stay }

@@ -2,9 +2,7 @@ pub mod Answers
 pub mod Outcomes
 pub mod Turns
 pub mod Delivered
-pub mod Keeping
 pub mod Closed
-pub mod Shares
 pub mod Meaning
 pub mod Suppressed
 pub mod Kept

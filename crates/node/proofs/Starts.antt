@@ -4,7 +4,7 @@
 -- Assumes nothing.
 use mathlib.Core.Path.{◌≡◌, refl}
 use mathlib.Core.Bool.{Bool, true}
-use mathlib.Core.List.{List, replicate}
+use mathlib.Core.List.{List}
 use mathlib.Core.Logic.{inl, inr}
 use Prim.Native.Nat.{ℕ, ◌+◌, ◌^◌, ◌<◌, ◌≤◌}
 use native.Mathlib.Omega.{arith}
@@ -37,7 +37,6 @@ use Rattle.own.proofs.Tables.{table_past, alike_at}
 use Rattle.node.specs.Load.{loaded, load_of}
 use Rattle.node.specs.Sound.{SoundMessageState, SoundState, Sound}
 use Rattle.node.proofs.Kept.{at_most_one, none_delivered}
-use Rattle.node.proofs.Shares.{start_shares}
 
 -- an extended word is a pattern of 32 bits, and that of a value in the range
 extended_word : (signed : Bool) (w x : ℕ) → extended signed w x ≡ true → x < 2 ^ 32
@@ -86,14 +85,12 @@ module _ (s : List ℕ) (F M D : ℕ) (w : WellLaid s F M D) where
         delivery_cells = refl;
         message_cells = length_table _ 0 32;
         stage_cells = refl;
-        share_cells = (start_shares (start_layout s F M D) (start_states s F M D) (replicate 128 no_stage)).cells;
         deliveries = λ f l. rw (alike_at no_delivery 32 f) (none_delivered _);
         no_deliveries = λ f past. alike_at no_delivery 32 f;
         messages = λ m l. rw (message_at_lem s F M D w m l, state_at_lem m l) (initial_sound m l);
         no_states = no_state_lem;
         stages = λ d l. rw (alike_at no_stage 128 d) (record { stage = inr (inr refl); always_gone = λ received. refl });
         no_stages = λ d past. alike_at no_stage 128 d;
-        shares = (start_shares (start_layout s F M D) (start_states s F M D) (replicate 128 no_stage)).fresh;
       }
 
   sound_start : Sound (start_of s F M D)

@@ -28,7 +28,6 @@ use Rattle.store.specs.Node.{
   with_stages,
   with_delivery,
   with_state,
-  with_shares,
   node_with,
 }
 use Rattle.message.specs.declared.Change.{Change}
@@ -36,7 +35,6 @@ use Rattle.message.specs.Messages.{can_hold, offered, invalidated}
 use Rattle.message.specs.Fields.{stage_after, is_gone, writes}
 use Rattle.own.specs.declared.Owner.{Owner}
 use Rattle.own.specs.Own.{changed, is_in, cells_of, fields_of}
-use Rattle.shares.specs.Shares.{put_in, taken_out, given_by, averaged}
 
 -- ---- outcomes
 
@@ -152,19 +150,10 @@ deliver_answer l f size =
 unfoldable pub kept : Delivery → List ℕ → Delivery
 kept y d = marked 1 (filled y (take 32 d))
 
--- the node that keeps it
-abbrev pub keeping : Node → ℕ → List ℕ → Node
-keeping n f d = node_with n (with_delivery n.state f (kept (delivery_at n.state f) d))
-
--- and each averaged message's share, with what the earlier delivery of this round gave taken out, and what this one gives put in
-unfoldable pub exchanged : Node → ℕ → List ℕ → State
-exchanged n f d =
-    with_shares (keeping n f d).state
-    (changed (averaged n.layout) (λ m p. put_in (taken_out p (given_by n f m)) (given_by (keeping n f d) f m)) 0 n.state.shares)
-
 -- with invalid status the call changes nothing, after the tests
 unfoldable pub deliver_of : Node → ℕ → Bool → List ℕ → Outcome
-deliver_of n f ok d = outcome (deliver_answer n.layout f (length d)) (cond ok (exchanged n f d) n.state) n
+deliver_of n f ok d =
+    outcome (deliver_answer n.layout f (length d)) (cond ok (with_delivery n.state f (kept (delivery_at n.state f) d)) n.state) n
 
 -- ---- receive
 

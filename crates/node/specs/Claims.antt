@@ -28,7 +28,7 @@ pub record AtStart (s : List ℕ) (n : Node) : Type 0 where
   pub gone : all_of is_gone n.state.stages ≡ true
   pub flag : (m p : ℕ) → m < message_count n.layout → is_sent (message_at n.layout m) ≡ true → flag_place n m p ≡ 1
 
--- field d is one of frame f's: of a sent frame one that lies there (own `Claims`, sent-fields)
+-- field d lies in frame f
 abbrev pub InFrame : Node → ℕ → ℕ → Type 0
 InFrame n f d = is_in d (cells_of n.layout (Owner.Frame f)) ≡ true
 

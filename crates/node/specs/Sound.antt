@@ -1,6 +1,6 @@
 -- What holds of every node that a load makes and every call keeps. No call asks for it: it is what makes the outcomes mean what the paper says.
 -- Assumes nothing.
-use Rattle.std.specs.Prelude.{◌≡◌, true, false, cond, ◌⊎◌, ℕ, ◌^◌, ◌<◌, ◌≤◌, length, get_or}
+use Rattle.std.specs.Prelude.{◌≡◌, true, false, ◌⊎◌, ℕ, ◌^◌, ◌<◌, ◌≤◌, length, get_or}
 use Rattle.store.specs.declared.Stage.{Stage}
 use Rattle.store.specs.declared.Stage.TheVariants.{Waiting, Loaded, Gone}
 use Rattle.store.specs.declared.Frame.{Frame}
@@ -8,10 +8,9 @@ use Rattle.store.specs.declared.Message.{Message}
 use Rattle.store.specs.declared.MessageState.{MessageState}
 use Rattle.store.specs.Node.{Layout, Delivery, State, Node, is_sent, has_status_bit, is_sent_frame, is_delivered, is_valid}
 use Rattle.store.specs.Node.{held_value}
-use Rattle.store.specs.Node.{frame_at, message_at, laid_at, delivery_at, state_at, stage_at, share_at, no_delivery, no_state, no_stage, no_share}
+use Rattle.store.specs.Node.{frame_at, message_at, laid_at, delivery_at, state_at, stage_at, no_delivery, no_state, no_stage}
 use Rattle.message.specs.Messages.{can_hold}
 use Rattle.own.specs.SoundLayout.{SoundLayout}
-use Rattle.shares.specs.Shares.{averaged, fresh_look}
 
 -- a delivery of frame h has 32 bytes of memory. Nothing stands there if none came in this round, and nothing past the frame's length if one did; to a
 -- sent frame none comes
@@ -46,20 +45,17 @@ pub record SoundStage (g : Message) (t : Stage) : Type 0 where
   pub stage : IsStage t
   pub always_gone : is_sent g ≡ false → t ≡ Gone 2
 
--- a state with a cell for each place, sound by the layout; past its numbers nothing is delivered, and there is no message's state and no stage. The share
--- of an averaged message is what a fresh look over the round's deliveries finds, and that of any other is nothing
+-- a state with a cell for each place, sound by the layout; past its numbers nothing is delivered, and there is no message's state and no stage
 pub record SoundState (l : Layout) (s : State) : Type 0 where
   pub delivery_cells : length s.deliveries ≡ 32
   pub message_cells : length s.messages ≡ 32
   pub stage_cells : length s.stages ≡ 128
-  pub share_cells : length s.shares ≡ 32
   pub deliveries : (f : ℕ) → f < l.frame_number → SoundDelivery (frame_at l f) (delivery_at s f)
   pub no_deliveries : (f : ℕ) → l.frame_number ≤ f → delivery_at s f ≡ no_delivery
   pub messages : (m : ℕ) → m < l.message_number → SoundMessageState (message_at l m) (state_at s m)
   pub no_states : (m : ℕ) → l.message_number ≤ m → state_at s m ≡ no_state
   pub stages : (d : ℕ) → d < l.field_number → SoundStage (message_at l (laid_at l d).message) (stage_at s d)
   pub no_stages : (d : ℕ) → l.field_number ≤ d → stage_at s d ≡ no_stage
-  pub shares : (m : ℕ) → share_at s m ≡ cond (averaged l m) (fresh_look (record { layout = l; state = s }) m) no_share
 
 -- both are sound
 pub record Sound (n : Node) : Type 0 where

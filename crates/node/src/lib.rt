@@ -23,13 +23,11 @@ ghost use Rattle.node.specs.Calls.{
   gone_at,
   flag_place,
   deliver_answer,
-  keeping,
-  exchanged,
   deliver_of,
   receive_answer,
   received_place,
 };
-ghost use Rattle.closing.specs.Closing.{close_by_shares};
+ghost use Rattle.closing.specs.Closing.{close_of};
 ghost use Rattle.node.specs.Load.{load_of};
 
 use layout::Verdict;
@@ -339,33 +337,7 @@ fn deliver_answer(node: &[u8], frame: u64, size: usize) -> u8
     0
 }
 
-// The data of a delivery, and that it came. Of a frame that is longer than the memory has room for, which no layout has, the first 32 bytes are kept.
-fn put_delivery(node: &mut [u8], frame: u8, bytes: &[u8])
-    requires { (frame < 32) × (length node.old ≡ node_size) }
-    ensures { node_of node.new ≡ keeping (node_of node.old) frame bytes.now }
-{
-    let f = frame as usize;
-    let n = store::smaller(bytes.len(), 32);
-    store::put_data(&mut *node, f, &bytes[..n]);
-    store::put_mark(node, f, 1);
-}
-
-// Keeps a delivery, and has the shares follow. A frame without fields in the index gives nothing, and need not save what
-// the calls below would change.
-fn keep(node: &mut [u8], frame: u8, bytes: &[u8])
-    requires { (frame < 32) × (length node.old ≡ node_size) }
-    ensures { node_of node.new ≡ node_with (node_of node.old) (exchanged (node_of node.old) frame bytes.now) }
-{
-    let h = store::frame_at(&node[..], frame as usize);
-    if h.fields == 0 {
-        put_delivery(node, frame, bytes);
-        return;
-    }
-    shares::take_out(&mut *node, frame);
-    put_delivery(&mut *node, frame, bytes);
-    shares::give(node, frame, false);
-}
-
+// Of a frame that is longer than the memory has room for, which no layout has, the first 32 bytes are kept.
 pub fn deliver(node: &mut [u8], frame: u64, valid: bool, bytes: &[u8]) -> u8
     requires { length node.old ≡ node_size }
     ensures { left result node.new ≡ deliver_of (node_of node.old) frame valid bytes.now }
@@ -375,7 +347,10 @@ pub fn deliver(node: &mut [u8], frame: u64, valid: bool, bytes: &[u8]) -> u8
         return answer;
     }
     if valid {
-        keep(node, frame as u8, bytes);
+        let f = frame as usize;
+        let n = store::smaller(bytes.len(), 32);
+        store::put_data(&mut *node, f, &bytes[..n]);
+        store::put_mark(node, f, 1);
     }
     0
 }
@@ -416,7 +391,7 @@ pub fn receive(node: &[u8], message: u64, value: &mut i64) -> u8
 
 pub fn close(node: &mut [u8]) -> u8
     requires { length node.old ≡ node_size }
-    ensures { left result node.new ≡ outcome 0 (close_by_shares (node_of node.old)) (node_of node.old) }
+    ensures { left result node.new ≡ outcome 0 (close_of (node_of node.old)) (node_of node.old) }
 {
     closing::close_round(node);
     0

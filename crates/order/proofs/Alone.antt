@@ -24,7 +24,7 @@ use Rattle.store.specs.declared.Message.{Message}
 use Rattle.store.specs.Node.{is_signed, is_float}
 use Rattle.message.specs.Messages.{can_hold, agreed_by}
 use Rattle.message.proofs.Held.{float_unsigned, held_in_range, held_finite}
-use Rattle.closing.proofs.Agreed.{in_range_value}
+use Rattle.closing.proofs.Instances.{in_range_value}
 
 -- ---- whole numbers
 

@@ -56,11 +56,11 @@ conflict l (message m) (message j) (stage_cell k) p q =
     both m j (laid_at l k).message (cell_names l (Owner.Message m) k p) (cell_names l (Owner.Message j) k q)
 conflict l (message m) (frame f) (state_cell i) p q = ap (carries l f) (sym (eqb-true i m p)) ∙ q
 conflict l (message m) (frame f) (delivery_cell k) p q = absurd (false≢true p)
-conflict l (message m) (frame f) (stage_cell k) p q = carrying l f m k q (cell_names l (Owner.Message m) k p)
+conflict l (message m) (frame f) (stage_cell k) p q = (carrying l f m).1 (k, q, cell_names l (Owner.Message m) k p)
 conflict l (message m) all c p q = refl
 conflict l (frame f) (message m) (state_cell i) p q = absurd (false≢true p)
 conflict l (frame f) (message m) (delivery_cell k) p q = absurd (false≢true q)
-conflict l (frame f) (message m) (stage_cell k) p q = carrying l f m k p (cell_names l (Owner.Message m) k q)
+conflict l (frame f) (message m) (stage_cell k) p q = (carrying l f m).1 (k, p, cell_names l (Owner.Message m) k q)
 conflict l (frame f) (frame j) (state_cell i) p q = absurd (false≢true p)
 conflict l (frame f) (frame j) (delivery_cell k) p q = both f j k p q
 conflict l (frame f) (frame j) (stage_cell k) p q = both f j (laid_at l k).frame (cell_names l (Owner.Frame f) k p) (cell_names l (Owner.Frame j) k q)

@@ -1,19 +1,14 @@
 -- The theorems on all calls together, each from the file that proves it.
 -- Assumes nothing.
-use borrow.Author.Tests.{ne_eqb}
-use Rattle.closing.specs.Closing.{closed_from_share}
-use Rattle.node.proofs.Closed.{no_share_left, delivery_closed}
-use Rattle.node.proofs.Shares.{closing_means}
+use Rattle.node.proofs.Closed.{delivery_closed}
 use Rattle.node.proofs.Starts.{sound_load}
 use Rattle.order.specs.Claims.{Claims}
-use Rattle.order.proofs.Carried.{carried}
 use Rattle.order.proofs.OrderOfCalls.{order_of_calls}
 use Rattle.order.proofs.Once.{once}
 use Rattle.order.proofs.Memories.{layout_kept, ran_means}
-use Rattle.order.proofs.Replicas.{replicas_agree, replicas_values, replicas_share}
+use Rattle.order.proofs.Replicas.{replicas_agree, replicas_values}
 use Rattle.order.proofs.Kept.{kept_sound}
-use Rattle.order.proofs.OwnBits.{own_bits, own_values, own_share}
-use Rattle.order.proofs.Shares.{share_fresh, share_exact, share_none, invalid_delivery}
+use Rattle.order.proofs.OwnBits.{own_bits, own_values}
 use Rattle.order.proofs.ReceivedKept.{received_kept}
 use Rattle.order.proofs.EachRound.{each_round}
 use Rattle.order.proofs.EqualBytes.{equal_bytes, closed_bytes, one_file}
@@ -33,16 +28,12 @@ use Rattle.order.proofs.StoredLoads.{has_load}
 use Rattle.order.proofs.Example.{order_example}
 use Rattle.order.proofs.DeliveryHistory.{none_loaded, none_closed, delivery_history}
 use Rattle.order.proofs.RoundExample.{round_example}
-use Rattle.order.proofs.OwnRound.{last_closing, own_round, own_round_values, own_round_share}
+use Rattle.order.proofs.OwnRound.{last_closing, own_round, own_round_values}
 
 pub claims : Claims
 claims =
     record {
       order_of_calls = order_of_calls;
-      carries_if = λ l s f m. let its = carried s m f in (
-        λ t. let (d, x) = its.0 t in (d, x.known, x.message, x.frame),
-        λ h. its.1 (h.0, record { known = h.1; message = h.2; frame = h.3 }),
-      );
       once = once;
       layout_kept = layout_kept;
       sound_load = sound_load;
@@ -54,17 +45,7 @@ claims =
       received_kept = received_kept;
       field_order = λ l s. field_order s;
       each_round = λ n n' s s'. each_round s s';
-      forgotten = λ n s. delivery_closed s closed_from_share;
-      share_fresh = λ n s. share_fresh s;
-      share_exact = λ n s. share_exact s;
-      share_none = λ n s. share_none s;
-      invalid_delivery = invalid_delivery;
-      frames_apart = λ l f g other v w b c. ne_eqb f g other;
-      own_round_share = λ n n' s s' m received l l' same. own_round_share s s' m received same;
-      share_cleared = λ n s. no_share_left s closed_from_share;
-      closing_means = λ n s. closing_means s;
-      own_share = λ n n' s s'. own_share s s';
-      replicas_share = λ n n' s s'. replicas_share s s';
+      forgotten = λ n s. delivery_closed s;
       equal_bytes = equal_bytes;
       closed_bytes = closed_bytes;
       one_file = one_file;

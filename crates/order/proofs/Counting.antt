@@ -26,11 +26,11 @@ use Rattle.store.specs.Node.{Node, is_sent, is_float, message_at, laid_at, state
 use Rattle.message.specs.Messages.{passes_now, agreed_by, agreed_on}
 use Rattle.own.specs.declared.Owner.{Owner}
 use Rattle.own.specs.Own.{chosen, is_in, Rising, cells_of, fields_of}
-use Rattle.own.proofs.Lists.{in_cases, every_number, in_chosen, chosen_rising, chosen_map}
+use Rattle.own.proofs.Lists.{by_test, in_cases, every_number, in_chosen}
 use Rattle.own.proofs.Owners.{fields_named, cells_rise}
-use Rattle.instance.specs.Instance.{counts, value_in, instances}
+use Rattle.closing.specs.Closing.{counts, value_in, instances}
 use Rattle.node.specs.Sound.{Sound}
-use Rattle.closing.proofs.Agreed.{agreed_in_message, instances_held}
+use Rattle.closing.proofs.Instances.{agreed_in_message, instances_held}
 use Rattle.closing.proofs.Rounds.{closed_some}
 use Rattle.calls.specs.Relations.{close, receive, value, sees, seen_of, next}
 use Rattle.order.specs.Counting.{CountingField, frame_number, carried_value, InFrameOrder, TakesPart, HasLowestFrame}
@@ -79,6 +79,25 @@ some_least p (x ∷ l) d rises there passes = go (p x) refl (λ later. some_leas
           u,
           λ a j v. in_cases a x l j (λ same. absurd (true≢false (sym v ∙ ap p same ∙ t))) (λ after. least a after v),
         )
+
+-- what is chosen of a rising list rises
+rising_chosen : (p : ℕ → Bool) (l : List ℕ) → Rising l → Rising (chosen p l)
+unfolding chosen
+rising_chosen p [] rises = tt
+rising_chosen p (e ∷ l) rises =
+    let later = rising_chosen p l rises.1 in
+    by_test Rising (p e) (λ t. (λ a i. rises.0 a ((in_chosen p a l).0 i).0, later)) (λ t. later)
+
+-- what is chosen of images is the images of what is chosen
+chosen_images : {A B : Type 0} (f : A → B) (p : B → Bool) (l : List A) → chosen p (map f l) ≡ map f (chosen (λ x. p (f x)) l)
+unfolding chosen
+chosen_images f p [] = refl
+chosen_images {A} {B} f p (x ∷ l) = go (p (f x)) (chosen_images f p l)
+  where
+    go : (b : Bool) → chosen p (map f l) ≡ map f (chosen (λ x. p (f x)) l)
+        → cond b (f x ∷ chosen p (map f l)) (chosen p (map f l)) ≡ map f (cond b (x ∷ chosen (λ x. p (f x)) l) (chosen (λ x. p (f x)) l))
+    go true later = ap (λ (r : List B). f x ∷ r) later
+    go false later = later
 
 -- ---- those that take part
 
@@ -168,9 +187,9 @@ module _ {n : Node} (s : Sound n) (m : ℕ) where
     counting,
     record {
       all = λ d. (each d, λ t. (in_chosen p d own).1 (in_own d t, t.counting));
-      rising = images_rise (frame_number n) (CountingField n m) frames_rise counting (every_number _ counting each) (chosen_rising p own own_rise);
+      rising = images_rise (frame_number n) (CountingField n m) frames_rise counting (every_number _ counting each) (rising_chosen p own own_rise);
     },
-    ap (map (value_in n g)) (chosen_map laid (counts n) own) ∙ map-map (value_in n g) laid counting,
+    ap (map (value_in n g)) (chosen_images laid (counts n) own) ∙ map-map (value_in n g) laid counting,
   )
     where
       p : ℕ → Bool
@@ -219,7 +238,7 @@ module _ {n : Node} (s : Sound n) (m : ℕ) where
   first_part d h =
       let p : ℕ → Bool = λ e. takes_part n g (laid e) in
       let (k, e) = first_chosen p own d own_rise (in_own d h.part.counting) (part_of d h.part) (least_part d h) in
-      (map (value_in n g) (map laid k), rw (chosen_map laid (takes_part n g) own, e) refl)
+      (map (value_in n g) (map laid k), rw (chosen_images laid (takes_part n g) own, e) refl)
 
   pub lowest_agreed : g.agreement ≡ 0 → (d : ℕ) → HasLowestFrame n m d → agreed_by g (instances n m) ≡ Value (carried_value n m d)
   unfolding instances

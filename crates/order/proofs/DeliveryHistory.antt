@@ -14,7 +14,6 @@ use lib.ListN.{length}
 use lib.Seq.{get_or-set_same, get_or-set_other}
 use Rattle.store.specs.Node.{State, Node, is_delivered, frame_at, delivery_at, no_delivery}
 use Rattle.start.specs.Start.{start_state}
-use Rattle.closing.specs.Closing.{closed_from_share}
 use Rattle.node.specs.Calls.{
   outcome,
   send_answer,
@@ -27,7 +26,6 @@ use Rattle.node.specs.Calls.{
   consumed_of,
   deliver_answer,
   kept,
-  exchanged,
   deliver_of,
 }
 use Rattle.node.specs.Load.{load_of}
@@ -54,7 +52,7 @@ unfolding start_state
 none_loaded n file ok f known = rw ((load_makes n file ok).node, alike_at no_delivery 32 f) refl
 
 pub none_closed : {n : Node} → Sound n → NoneDelivered (next n close)
-none_closed s f known = rw (delivery_closed s closed_from_share f known) refl
+none_closed s f known = rw (delivery_closed s f known) refl
 
 -- ---- one call
 
@@ -92,7 +90,7 @@ no_closing e = clash cc
 module _ {n : Node} (s : Sound n) {f : ℕ} (known : f < n.layout.frame_number) where
   -- a valid delivery of frame f that answers 0
   put_delivery : (b : List ℕ) → answer_of n (deliver f true b) ≡ 0 → DeliveredWith (next n (deliver f true b)) f b
-  unfolding deliver_of exchanged kept
+  unfolding deliver_of kept
   put_delivery b ok =
       let room : f < length n.state.deliveries = omega (arith, s.layout.few_frames, s.state.delivery_cells) in
       let size = (deliver_tests n.layout f (length b) ok).1 in
@@ -111,7 +109,7 @@ module _ {n : Node} (s : Sound n) {f : ℕ} (known : f < n.layout.frame_number) 
 
   -- a delivery puts its data if it is valid, answered 0, and of this frame
   delivery_touch : (g : ℕ) (valid : Bool) (b : List ℕ) → Dec (answer_of n (deliver g valid b) ≡ 0) → Dec (g ≡ f) → Touch f n (deliver g valid b)
-  unfolding deliver_of exchanged
+  unfolding deliver_of
   delivery_touch g valid b (no refuses) k =
       leaves (λ e. refuses (answered_0 n _ close e)) (λ c e. refuses (answered_0 n _ (deliver f true c) e))
       (ap (λ (k : Node). delivery_at k.state f) (refused n (deliver g valid b) refuses).0)

@@ -1,29 +1,25 @@
 -- Each round by itself. A sound node's delivery has data up to its frame's length if it came in this round, and nothing else; what a message or a field
 -- has for the other direction is as at start, and past the layout's numbers there is nothing. So two sound nodes of one layout with the same messages,
--- stages and deliveries of this round have the same cells; their shares are what a fresh look over these deliveries finds. A closing leaves no delivery, and then the messages and stages are enough.
+-- stages and deliveries of this round have the same cells. A closing leaves no delivery, and then the messages and stages are enough.
 -- Assumes nothing.
-use mathlib.Core.Path.{◌≡◌, refl, sym, ap, ◌∙◌}
-use mathlib.Core.Bool.{Bool, true, false, not, cond, true≢false, false≢true}
+use mathlib.Core.Path.{◌≡◌, refl, sym, ◌∙◌}
+use mathlib.Core.Bool.{Bool, true, false, not, true≢false, false≢true}
 use mathlib.Core.List.{List}
 use Prim.Native.Nat.{ℕ, zero, suc, ◌<◌, ◌≤◌}
 use native.Mathlib.Decide.{dec_lt}
 use native.Mathlib.Omega.{arith}
 use lib.Dec.{eqb}
-use lib.ListN.{length, get_or, take, get_or-eq_default}
+use lib.ListN.{length, get_or, take}
 use lib.Seq.{get_or-take, ext_get_or}
 use Rattle.store.specs.declared.Frame.{Frame}
 use Rattle.store.specs.declared.Message.{Message}
 use Rattle.store.specs.declared.MessageState.{MessageState}
-use Rattle.store.specs.declared.Share.{Share}
 use Rattle.store.specs.Node.{Layout, Delivery, State, Node, is_sent, has_status_bit, is_sent_frame, is_delivered, is_valid}
-use Rattle.store.specs.Node.{no_frame, no_message, not_laid, no_delivery, no_state, no_stage, no_share}
+use Rattle.store.specs.Node.{no_frame, no_message, not_laid, no_delivery, no_state, no_stage}
 use Rattle.store.specs.Node.{frame_at, message_at, laid_at, delivery_at, stage_at, node_with}
 use Rattle.own.specs.SoundLayout.{SoundLayout}
 use Rattle.node.specs.Sound.{SoundDelivery, SoundMessageState, Sound}
-use Rattle.shares.specs.Shares.{averaged}
-use Rattle.closing.specs.Closing.{closed_from_share}
 use Rattle.node.proofs.Closed.{delivery_closed}
-use Rattle.node.proofs.Shares.{fresh_felt}
 use Rattle.calls.specs.Relations.{close, next}
 use Rattle.order.specs.Own.{SameLayout, SameMessageState, SameMessages, SameDelivery, SameRound}
 use Rattle.order.proofs.Kept.{kept_sound}
@@ -79,9 +75,6 @@ same_message g a a' s s' same =
     status true t = s.sent_status t ∙ sym (s'.sent_status t)
     status false t = same.status t
 
-past_cells : (r : List Share) → length r ≡ 32 → (m : ℕ) → 32 ≤ m → get_or r m no_share ≡ no_share
-past_cells r all m past = get_or-eq_default r no_share (omega arith)
-
 -- two states of one layout
 module _ {n : Node} {k : State} (s : Sound n) (s' : Sound (node_with n k)) (same : SameRound n (node_with n k)) where
   abbrev l : Layout
@@ -118,12 +111,7 @@ module _ {n : Node} {k : State} (s : Sound n) (s' : Sound (node_with n k)) (same
       let stages =
       same_cells no_stage l.field_number 128 n.state.stages k.stages s.state.stage_cells s'.state.stage_cells each_stage
       s.state.no_stages s'.state.no_stages in
-      let shares =
-      same_cells no_share 32 32 n.state.shares k.shares s.state.share_cells s'.state.share_cells
-      (λ m h. s.state.shares m
-      ∙ ap (λ (p : Share). cond (averaged l m) p no_share) (fresh_felt n k deliveries m)
-      ∙ sym (s'.state.shares m)) (past_cells n.state.shares s.state.share_cells) (past_cells k.shares s'.state.share_cells) in
-      rw (deliveries, states, stages, shares)
+      rw (deliveries, states, stages)
 
 pub same_node : {n n' : Node} → Sound n → Sound n' → n.layout ≡ n'.layout → SameRound n n' → n ≡ n'
 same_node {n} {n'} s s' layout =
@@ -156,6 +144,6 @@ closed_round {n} {n'} s s' layout messages =
   where
     none : (f : ℕ) → f < n.layout.frame_number → is_sent_frame (frame_at n.layout f) ≡ false → SameDelivery (next n close) (next n' close) f
     none f l received =
-        let gone = delivery_closed s closed_from_share f l in
-        let gone' = delivery_closed s' closed_from_share f (rw (← layout) l) in
+        let gone = delivery_closed s f l in
+        let gone' = delivery_closed s' f (rw (← layout) l) in
         record { frame = rw (gone, gone') refl; bytes = λ came. absurd (false≢true (rw gone at came)) }

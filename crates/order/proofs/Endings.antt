@@ -23,8 +23,7 @@ use Rattle.own.specs.declared.Owner.{Owner}
 use Rattle.own.specs.Own.{chosen, fields_of}
 use Rattle.own.proofs.Lists.{Every, chosen_each, all_every}
 use Rattle.own.proofs.Owners.{fields_named}
-use Rattle.instance.specs.Instance.{came, status_set, counts, value_in, instances, none_came}
-use Rattle.closing.specs.Closing.{closed_state, is_received}
+use Rattle.closing.specs.Closing.{came, status_set, counts, value_in, instances, none_came, closed_state, is_received}
 use Rattle.node.specs.Calls.{send_of}
 use Rattle.node.specs.Sound.{Sound}
 use Rattle.closing.proofs.Rounds.{closed_none, closed_some}

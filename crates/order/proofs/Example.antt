@@ -21,7 +21,6 @@ use Rattle.store.specs.Node.{Layout, Node, node_of}
 use Rattle.start.specs.Start.{
   table,
   selected,
-  list_frame,
   laid_frame,
   frame_by_frame,
   start_message,
@@ -43,7 +42,7 @@ use Rattle.own.specs.Own.{chosen, owns, cells_of}
 use Rattle.node.specs.Calls.{Outcome, send_answer, send_of, suppressed, assemble_answer, written, assemble_of, assembled}
 use Rattle.own.proofs.Lists.{every_more, all_every}
 use Rattle.calls.specs.Relations.{send, assemble, deliver, Memory, Loads}
-use Rattle.order.specs.Order.{Result, Ran, some_names, carries, results, dependent, Numbered, In, there, Before, OwnNumbers, Reordered}
+use Rattle.order.specs.Order.{Result, Ran, some_of, carries, results, dependent, Numbered, In, there, Before, OwnNumbers, Reordered}
 use Rattle.order.specs.Example.{sent_file, sends0, sends1, assembles0, was_sent, was_assembled, MayChange, MayNotChange}
 use Rattle.order.specs.Runs.{BringsBytes, EachBringsBytes}
 use Rattle.order.proofs.LoadedNodes.{accepted, loads}
@@ -93,8 +92,8 @@ carries_one : (carries loaded.layout 0 0 ≡ true) × (carries loaded.layout 0 1
 unfolding
     sent_file record_of tally least_below any_below byte_at frame_at message_at field_at
     start_layout start_frames start_index start_messages start_fields
-    table selected list_frame laid_frame frame_by_frame start_message_or_none start_message start_laid
-    some_names cells_of chosen owns
+    table selected laid_frame frame_by_frame start_message_or_none start_message start_laid
+    some_of cells_of chosen owns
 carries_one = (refl, refl)
 
 -- what the callers see, by computing
@@ -105,7 +104,7 @@ shown : (results loaded (sends1 ∷ assembles0 ∷ []) ≡ was_sent 1 ∷ was_as
 unfolding
     sent_file record_of tally least_below any_below byte_at word_at frame_at message_at field_at
     start_layout start_state start_frames start_index start_messages start_states start_fields
-    table selected list_frame laid_frame frame_by_frame start_message_or_none start_message state_or_none start_laid
+    table selected laid_frame frame_by_frame start_message_or_none start_message state_or_none start_laid
     cells_of chosen owns
     send_of send_answer can_hold in_range is_width least greatest offered passes_now passes rules
     assemble_of assemble_answer suppressed assembled written writes status_places

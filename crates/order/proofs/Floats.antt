@@ -21,11 +21,9 @@ use Rattle.store.specs.declared.MessageState.{MessageState}
 use Rattle.store.specs.Node.{Node, is_sent, is_float, message_at, state_at, with_status}
 use Rattle.message.specs.Messages.{agreed_by, agreed_on}
 use Rattle.message.proofs.Passed.{true_passes}
-use Rattle.instance.specs.Instance.{instances}
-use Rattle.closing.specs.Closing.{is_received}
+use Rattle.closing.specs.Closing.{instances, is_received}
 use Rattle.node.specs.Sound.{Sound}
-use Rattle.instance.proofs.Instances.{instances_few}
-use Rattle.closing.proofs.Agreed.{agreed_in_message}
+use Rattle.closing.proofs.Instances.{instances_few, agreed_in_message}
 use Rattle.closing.proofs.Rounds.{closed_some}
 use Rattle.calls.specs.Relations.{close, receive, value, sees, seen_of, next}
 use Rattle.order.specs.Floats.{mean_shown}

@@ -1,6 +1,5 @@
 -- Two calls whose names are not linked commute. A call changes only cells that its name writes, each by itself; and what its caller sees depends only
--- on cells that its name reads. So a call leaves to another, not linked with it, all that the other reads. The shares alone may be written by both, of two
--- deliveries, and what they exchange there may be exchanged in either order.
+-- on cells that its name reads. So a call leaves to another, not linked with it, all that the other reads.
 -- Assumes nothing.
 use mathlib.Core.Path.{◌≡◌, refl, ap, ap₂, sym, ◌∙◌}
 use mathlib.Core.Bool.{Bool, true, false, not, cond, true≢false}
@@ -16,24 +15,21 @@ use Rattle.record.specs.declared.Field.{Field as FieldRecord}
 use Rattle.store.specs.declared.Stage.{Stage}
 use Rattle.store.specs.declared.Frame.{Frame}
 use Rattle.store.specs.declared.MessageState.{MessageState}
-use Rattle.store.specs.declared.Share.{Share}
-use Rattle.store.specs.Node.{Layout, Delivery, State, Node, is_valid, message_at, laid_at, delivery_at, state_at, stage_at, no_delivery, no_state, no_stage, node_with}
+use Rattle.store.specs.Node.{Layout, Delivery, State, Node, is_valid, message_at, laid_at, state_at, stage_at, no_delivery, no_state, no_stage, node_with}
 use Rattle.message.specs.declared.Change.{Change}
 use Rattle.message.specs.Messages.{offered, invalidated}
 use Rattle.message.specs.Fields.{stage_after, is_gone, writes as writes_into}
 use Rattle.own.specs.declared.Owner.{Owner}
 use Rattle.own.specs.Own.{changed, cells_of, fields_of}
 use Rattle.node.specs.Calls.{send_of, invalidate_of, invalid_in, suppressed, assemble_answer, written, assemble_of, assembled, consumed_of}
-use Rattle.node.specs.Calls.{gone_at, flag_of, flag_place, deliver_answer, kept, exchanged, deliver_of, receive_answer, received_place}
-use Rattle.own.proofs.Lists.{changed_length, changed_at, changed_twice, changed_so, unchanged, Every, every_more, every_number}
-use Rattle.shares.specs.Shares.{put_in, averaged}
+use Rattle.node.specs.Calls.{gone_at, flag_of, flag_place, kept, deliver_of, receive_answer, received_place}
+use Rattle.own.proofs.Lists.{changed_length, changed_at, Every, every_more, every_number}
 use Rattle.calls.specs.Relations.{Call, send, invalidate, assemble, consumed, read_flag, deliver, close, receive}
 use Rattle.calls.specs.Relations.{Seen, buffer, answer_of, seen_of, next}
 use Rattle.order.specs.Order.{Name, message, frame, name_of, dependent}
 use Rattle.order.proofs.Carried.{carrying}
 use Rattle.order.proofs.Cells.{Cell, state_cell, delivery_cell, stage_cell, writes, reads, writes_reads, apart, not_linked}
 use Rattle.order.proofs.Chosen.{all_alike, each_field}
-use Rattle.order.proofs.Exchanges.{exchange, exchange_apart, exchanges_swap}
 
 cond_same : {A : Type 0} (t : Bool) (a : A) → cond t a a ≡ a
 cond_same true a = refl
@@ -42,6 +38,12 @@ cond_same false a = refl
 -- ---- lists with some elements changed
 
 module _ {A : Type 0} (p : ℕ → Bool) where
+  -- each to itself
+  unchanged : (i : ℕ) (l : List A) → changed p (λ j x. x) i l ≡ l
+  unfolding changed
+  unchanged i [] = refl
+  unchanged i (x ∷ l) = ap₂ ◌∷◌ (cond_same (p i) x) (unchanged (suc i) l)
+
   module _ (g : A → A) where
     -- an element that is not among them, at place j from number i on
     changed_other : (d : A) (i : ℕ) (l : List A) (j k : ℕ) → i + j ≡ k → p k ≡ false → get_or (changed p (λ a. g) i l) j d ≡ get_or l j d
@@ -95,34 +97,28 @@ effect l (deliver f valid d) = record { deliveries = λ y. cond valid (kept y d)
 effect l close = on_stages (λ t. t)
 effect l (receive m p) = on_stages (λ t. t)
 
--- the cells that the name writes are changed so, and the shares of averaged messages by h
-abbrev spread : Layout → Name → Effect → (ℕ → Share → Share) → State → State
-spread l a g h s =
+abbrev spread : Layout → Name → Effect → State → State
+spread l a g s =
     record {
       deliveries = changed (λ j. writes l a (delivery_cell j)) (λ j. g.deliveries) 0 s.deliveries;
       messages = changed (λ i. writes l a (state_cell i)) (λ i. g.messages) 0 s.messages;
       stages = changed (λ k. writes l a (stage_cell k)) (λ k. g.stages) 0 s.stages;
-      shares = changed (averaged l) h 0 s.shares;
     }
 
 -- the state after a call, whether it is answered 0 or not
 abbrev pub after : Layout → Call → Bool → State → State
-after l c t s = cond t (spread l (name_of c) (effect l c) (exchange l c s) s) s
+after l c t s = cond t (spread l (name_of c) (effect l c) s) s
 
 -- every call but a closing
 pub next_after : (n : Node) (c : Call) → (close ≡ c → ⊥)
     → next n c ≡ node_with n (after n.layout c (eqb (answer_of n c) 0) n.state)
-unfolding send_of invalidate_of assemble_of consumed_of deliver_of exchanged put_in
+unfolding send_of invalidate_of assemble_of consumed_of deliver_of
 next_after n (send m v) other = simp (unchanged, replaced (λ t. offered (message_at n.layout m) t v) no_state n.state.messages m)
 next_after n (invalidate m) other = simp (unchanged, replaced invalidated no_state n.state.messages m)
 next_after n (assemble f d) other = simp unchanged
 next_after n (consumed f) other = simp unchanged
 next_after n (read_flag m p) other = simp (unchanged, cond_same)
-next_after n (deliver f true d) other =
-    simp unchanged
-    (ap (λ (r : List Delivery). node_with n (cond (eqb (deliver_answer n.layout f (length d)) 0)
-    (record { deliveries = r; messages = n.state.messages; stages = n.state.stages; shares = (exchanged n f d).shares }) n.state))
-    (replaced (λ y. kept y d) no_delivery n.state.deliveries f))
+next_after n (deliver f true d) other = simp (unchanged, replaced (λ y. kept y d) no_delivery n.state.deliveries f)
 next_after n (deliver f false d) other = simp unchanged
 next_after n close other = absurd (other refl)
 next_after n (receive m p) other = simp (unchanged, cond_same)
@@ -148,7 +144,7 @@ module _ (l : Layout) (s s' : State) where
   carried_same : (f : ℕ) → Alike (frame f) → SameStates (fields_of l (Owner.Frame f))
   carried_same f h =
       each_field l (Owner.Frame f) _
-      (λ d t. h.states (laid_at l d).message (carrying l f (laid_at l d).message d t (eq-eqb _ (laid_at l d).message refl)))
+      (λ d t. h.states (laid_at l d).message ((carrying l f (laid_at l d).message).1 (d, t, eq-eqb _ (laid_at l d).message refl)))
 
   written_same : (h : Frame) (r : List FieldRecord) (b : List ℕ) → SameStates r → written one h r b ≡ written other h r b
   unfolding written
@@ -199,28 +195,7 @@ module _ (l : Layout) (s : State) (c d : Call) (u : dependent l c d ≡ false) w
       }
   alike false = record { states = λ i r. refl; stages = λ k r. refl }
 
-  -- what each exchanges is not felt by the other
-  delivery_left : (c d : Call) → dependent l c d ≡ false → (j : ℕ) → reads l (name_of d) (delivery_cell j) ≡ true
-      → delivery_at (after l c true s) j ≡ delivery_at s j
-  delivery_left c d u j r = changed_other _ _ no_delivery 0 s.deliveries j j (zero-add j) (apart l (name_of c) (name_of d) u (delivery_cell j) r)
-
-  felt_not : (c d : Call) → dependent l c d ≡ false → (m : ℕ) (p : Share) → exchange l d (after l c true s) m p ≡ exchange l d s m p
-  felt_not c d u =
-      exchange_apart l (after l c true s) s (changed_length (λ j. writes l (name_of c) (delivery_cell j)) (λ j. (effect l c).deliveries) 0 s.deliveries) d
-      (delivery_left c d u)
-
-  shares_swap : (r : List Share)
-      → changed (averaged l) (exchange l c (after l d true s)) 0 (changed (averaged l) (exchange l d s) 0 r)
-      ≡ changed (averaged l) (exchange l d (after l c true s)) 0 (changed (averaged l) (exchange l c s) 0 r)
-  shares_swap r =
-      changed_twice (averaged l) (exchange l c (after l d true s)) (exchange l d s) 0 r
-      ∙ changed_so (averaged l) (λ m p. exchange l c (after l d true s) m (exchange l d s m p)) (λ m p. exchange l d (after l c true s) m (exchange l c s m p))
-      (λ m p. felt_not d c (not_linked l (name_of c) (name_of d) u) m (exchange l d s m p)
-      ∙ exchanges_swap l c d s m p
-      ∙ sym (felt_not c d u m (exchange l c s m p))) 0 r
-      ∙ sym (changed_twice (averaged l) (exchange l d (after l c true s)) (exchange l c s) 0 r)
-
-  -- and no other cell is written by both
+  -- and no cell is written by both
   swap : (t t' : Bool) → after l c t (after l d t' s) ≡ after l d t' (after l c t s)
   swap true true =
       let free : (z : Cell) → writes l (name_of d) z ≡ true → writes l (name_of c) z ≡ false =
@@ -229,7 +204,6 @@ module _ (l : Layout) (s : State) (c d : Call) (u : dependent l c d ≡ false) w
         deliveries = changed_swap _ (effect l c).deliveries _ (effect l d).deliveries (λ j. free (delivery_cell j)) 0 s.deliveries i;
         messages = changed_swap _ (effect l c).messages _ (effect l d).messages (λ j. free (state_cell j)) 0 s.messages i;
         stages = changed_swap _ (effect l c).stages _ (effect l d).stages (λ k. free (stage_cell k)) 0 s.stages i;
-        shares = shares_swap s.shares i;
       }
   swap true false = refl
   swap false t' = refl

@@ -12,7 +12,7 @@ use native.Mathlib.Omega.{arith}
 use lib.Dec.{eqb}
 use lib.IntN.{ℤ}
 use lib.ListN.{length}
-use borrow.Author.Tests.{not-true}
+use borrow.Author.Tests.{eq-eqb, not-true}
 use Rattle.record.specs.declared.Field.{Field as FieldRecord}
 use Rattle.store.specs.declared.Message.{Message}
 use Rattle.store.specs.declared.MessageState.{MessageState}
@@ -22,12 +22,10 @@ use Rattle.message.specs.Fields.{status_places}
 use Rattle.own.specs.declared.Owner.{Owner}
 use Rattle.own.specs.Own.{chosen, is_in, cells_of, fields_of}
 use Rattle.own.proofs.Lists.{Every, all_every}
-use Rattle.own.proofs.Owners.{sent_fields}
+use Rattle.own.proofs.Owners.{fields_named}
 use Rattle.node.specs.Calls.{assemble_answer, assembled}
-use Rattle.instance.specs.Instance.{came, status_set, counts, value_in, instances, none_came}
-use Rattle.closing.specs.Closing.{closed_state}
+use Rattle.closing.specs.Closing.{came, status_set, counts, value_in, instances, none_came, closed_state}
 use Rattle.node.specs.Sound.{Sound}
-use Rattle.node.proofs.Answers.{assemble_access}
 use Rattle.node.proofs.Delivered.{data_length}
 use Rattle.node.proofs.Meaning.{held_stands, status_stands}
 use Rattle.closing.proofs.Rounds.{closed_none}
@@ -79,9 +77,7 @@ module _ {s r : Node} (sender : Sound s) (receiver : Sound r) {m m' : ℕ} {x x'
   its_number = rw (laid, message) at (sender.layout.fields d known).message
 
   in_frame : is_in d (cells_of s.layout (Owner.Frame x.frame)) ≡ true
-  in_frame =
-      let sent = assemble_access s x.frame (length b) assembles in
-      (sent_fields sender.layout x.frame d sent).1 (known, ap (λ (y : FieldRecord). y.frame) laid)
+  in_frame = (fields_named sender.layout (Owner.Frame x.frame) d).1 (known, eq-eqb _ _ (ap (λ (y : FieldRecord). y.frame) laid))
 
   size : length (data_at r x'.frame) ≡ (frame_at s.layout x.frame).length
   size =

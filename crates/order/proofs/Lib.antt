@@ -4,7 +4,6 @@ pub mod Constructors
 pub mod Chosen
 pub mod Carried
 pub mod Cells
-pub mod Exchanges
 pub mod Footprints
 pub mod Reorder
 pub mod OrderOfCalls
@@ -15,11 +14,10 @@ pub mod Refusals
 pub mod StoredLoads
 pub mod Once
 pub mod Shown
-pub mod ReceivedKept
 pub mod Replicas
 pub mod OwnBits
+pub mod ReceivedKept
 pub mod EachRound
-pub mod Shares
 pub mod EqualBytes
 pub mod Stages
 pub mod FlagHistory

@@ -13,7 +13,6 @@ use Rattle.layout.specs.Paper.{record_of}
 use Rattle.start.specs.Start.{
   table,
   selected,
-  list_frame,
   laid_frame,
   frame_by_frame,
   start_message,
@@ -31,8 +30,7 @@ use Rattle.start.specs.Start.{
 use Rattle.message.specs.Messages.{can_hold, passes_now, offered}
 use Rattle.own.specs.Own.{chosen, owns, cells_of}
 use Rattle.node.specs.Calls.{send_answer, send_of, invalidate_answer, invalidate_of, suppressed, assemble_answer, assemble_of, consumed_of, consumed_answer}
-use Rattle.instance.specs.Instance.{came, counts, instances}
-use Rattle.closing.specs.Closing.{is_received}
+use Rattle.closing.specs.Closing.{came, counts, instances, is_received}
 use Rattle.calls.specs.Relations.{Call, send, assemble, consumed}
 use Rattle.order.specs.Order.{here}
 use Rattle.order.specs.Mirror.{Mirrors}
@@ -51,7 +49,7 @@ field' = record { message = 1; frame = 1; start = 3; status = 1; place = 0 }
 mirror : Mirrors sender.layout receiver_among.layout 0 1 field field'
 unfolding
     sender receiver_among sender_file among_file record_of byte_at word_at frame_at message_at field_at tally any_below least_below
-    start_layout start_frames start_index start_messages start_fields table selected list_frame laid_frame frame_by_frame start_message_or_none start_message start_laid
+    start_layout start_frames start_index start_messages start_fields table selected laid_frame frame_by_frame start_message_or_none start_message start_laid
     chosen cells_of owns is_received
 mirror =
     record {
@@ -71,7 +69,7 @@ pub mirror_example : (p : ℤ) → PassedOn p
 unfolding
     sender receiver_among sender_file among_file record_of byte_at word_at frame_at message_at field_at tally any_below least_below
     start_layout start_state start_frames start_index start_messages start_states start_fields
-    table selected list_frame laid_frame frame_by_frame start_message_or_none start_message state_or_none start_laid
+    table selected laid_frame frame_by_frame start_message_or_none start_message state_or_none start_laid
     chosen cells_of owns all_of send_of send_answer invalidate_of invalidate_answer can_hold in_range is_width least greatest value_of pattern_of passes_now passes rules compared bound
     offered assemble_of assemble_answer suppressed consumed_of consumed_answer instances counts came
 mirror_example p =

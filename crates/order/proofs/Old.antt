@@ -1,8 +1,8 @@
 -- The old value is the message's value: a filter is asked with the value that the message holds, and a receive that answers 0 shows it. What a sent message
 -- holds is written by a send of it alone: an invalidate writes its validity, and a closing the states of received messages.
 -- Assumes nothing.
-use mathlib.Core.Path.{◌≡◌, refl, ap, ◌∙◌}
-use mathlib.Core.Bool.{true, and-false}
+use mathlib.Core.Path.{◌≡◌, refl, sym, ap, ◌∙◌}
+use mathlib.Core.Bool.{true, false, and-false}
 use mathlib.Core.List.{List, [], ◌∷◌}
 use Prim.Native.Nat.{ℕ, ◌<◌}
 use native.Mathlib.Decide.{ℕ_discrete, dec_lt}
@@ -15,9 +15,9 @@ use Rattle.store.specs.declared.MessageState.{MessageState}
 use Rattle.store.specs.Node.{State, Node, message_count, is_sent, held_value, no_state, message_at, state_at}
 use Rattle.message.specs.Messages.{passes_now}
 use Rattle.own.proofs.Lists.{by_test}
-use Rattle.closing.specs.Closing.{closed_from_share, is_received}
+use Rattle.closing.specs.Closing.{is_received}
 use Rattle.node.specs.Calls.{send_answer, send_of, invalidate_answer, invalidate_of, assemble_answer, assemble_of, consumed_answer, consumed_of}
-use Rattle.node.specs.Calls.{deliver_answer, exchanged, deliver_of, receive_answer, received_place}
+use Rattle.node.specs.Calls.{deliver_answer, deliver_of, receive_answer, received_place}
 use Rattle.node.specs.Sound.{Sound}
 use Rattle.node.proofs.Closed.{state_closed}
 use Rattle.calls.specs.Relations.{Call, send, invalidate, assemble, consumed, read_flag, deliver, close, receive}
@@ -67,7 +67,7 @@ module _ {n : Node} (s : Sound n) (m : ℕ) (sent : is_sent (message_at n.layout
 
   -- a call that is not a send of the message with answer 0
   one_call : (c : Call) → ((v : ℤ) → succeeded (send m v) ≡ with_answer n c → ⊥) → Stays (next n c).state
-  unfolding send_of invalidate_of assemble_of consumed_of deliver_of exchanged is_received
+  unfolding send_of invalidate_of assemble_of consumed_of deliver_of is_received
   one_call (send i v) none =
       by_answer Stays n (send_answer n.layout i v) _ refl
       (λ ok. ap (λ (x : MessageState). x.held) (get_or-set_other n.state.messages i m _ no_state (λ e. none v (rw (e, ok) refl))))
@@ -77,7 +77,7 @@ module _ {n : Node} (s : Sound n) (m : ℕ) (sent : is_sent (message_at n.layout
   one_call (read_flag i p) none = refl
   one_call (deliver f valid d) none =
       by_answer Stays n (deliver_answer n.layout f (length d)) _ refl (λ ok. by_test Stays valid (λ t. refl) (λ t. refl))
-  one_call close none = rw (state_closed s closed_from_share m, sent, and-false (ltb m (message_count n.layout))) refl
+  one_call close none = rw (state_closed s m, sent, and-false (ltb m (message_count n.layout))) refl
   one_call (receive i p) none = refl
 
 pub sent_kept : {n : Node} → Sound n → (m : ℕ) → is_sent (message_at n.layout m) ≡ true → (l : List Call) → (Sent n m l → ⊥)

@@ -1,27 +1,24 @@
 -- Own bits alone: replicas in one layout. A message lies like itself, and of two nodes that agree on its own bits it came alike to both. A message
 -- that is not received shows no value, and a closing leaves its own.
 -- Assumes nothing.
-use mathlib.Core.Path.{◌≡◌, refl, sym, subst, ◌∙◌}
+use mathlib.Core.Path.{◌≡◌, refl, subst}
 use mathlib.Core.Bool.{Bool, true, false, cond, not, ◌&&◌, true≢false}
 use Prim.Native.Nat.{ℕ}
 use lib.Dec.{eqb, ltb}
 use lib.IntN.{ℤ}
 use Rattle.record.specs.declared.Field.{Field as FieldRecord}
-use Rattle.store.specs.declared.Share.{Share}
-use Rattle.store.specs.Node.{Layout, State, Node, message_count, is_sent, message_at, laid_at, state_at, share_at, node_with}
+use Rattle.store.specs.Node.{Layout, State, Node, message_count, is_sent, message_at, laid_at, state_at, node_with}
 use Rattle.own.specs.declared.Owner.{Owner}
 use Rattle.own.specs.Own.{is_in, cells_of, fields_of}
-use Rattle.own.proofs.Lists.{same_test}
-use Rattle.shares.specs.Shares.{averaged}
 use Rattle.node.specs.Calls.{receive_answer, received_place}
-use Rattle.closing.specs.Closing.{closed_from_share, is_received, close_by_shares}
+use Rattle.closing.specs.Closing.{is_received, close_of}
 use Rattle.node.specs.Sound.{Sound}
-use Rattle.node.proofs.Closed.{averaged_received, state_closed}
+use Rattle.node.proofs.Closed.{state_closed}
 use Rattle.calls.specs.Relations.{close, receive, value, sees, seen_of, next}
 use Rattle.order.specs.Own.{SameValues, SameInstance, SameOwn}
 use Rattle.order.specs.Replicas.{FieldByField, LieAlike, Replicas}
 use Rattle.order.proofs.Chosen.{pairwise_same, each_field}
-use Rattle.order.proofs.Replicas.{replicas_agree, replicas_values, replicas_share}
+use Rattle.order.proofs.Replicas.{replicas_agree, replicas_values}
 
 -- ---- one layout
 
@@ -65,12 +62,12 @@ module _ {n : Node} {k : State} (s : Sound n) (s' : Sound (node_with n k)) (m : 
   came_alike : FieldByField (SameInstance n n') n.layout n.layout m m
   came_alike = with_itself n.layout m (SameInstance n n') same.fields
 
-  values_alike : SameValues (state_at (close_by_shares n) m) (state_at (close_by_shares n') m)
+  values_alike : SameValues (state_at (close_of n) m) (state_at (close_of n') m)
   values_alike = go (is_received n.layout m) refl
     where
-      go : (b : Bool) → is_received n.layout m ≡ b → SameValues (state_at (close_by_shares n) m) (state_at (close_by_shares n') m)
+      go : (b : Bool) → is_received n.layout m ≡ b → SameValues (state_at (close_of n) m) (state_at (close_of n') m)
       go true t = replicas_values s s' m m (itself n.layout m t) (record { values = same.values; fields = came_alike })
-      go false t = rw (state_closed s closed_from_share m, state_closed s' closed_from_share m, t) same.values
+      go false t = rw (state_closed s m, state_closed s' m, t) same.values
 
   seen_alike : (p : ℤ) → seen_of (next n close) (receive m p) ≡ seen_of (next n' close) (receive m p)
   unfolding receive_answer received_place is_received
@@ -79,19 +76,6 @@ module _ {n : Node} {k : State} (s : Sound n) (s' : Sound (node_with n k)) (m : 
       go : (b : Bool) → is_received n.layout m ≡ b → seen_of (next n close) (receive m p) ≡ seen_of (next n' close) (receive m p)
       go true t = replicas_agree s s' m m (itself n.layout m t) (record { values = same.values; fields = came_alike }) p
       go false t = refused (ltb m (message_count n.layout)) (is_sent (message_at n.layout m)) _ _ _ _ p t
-
-  share_alike : share_at n.state m ≡ share_at k m
-  share_alike = go (is_received n.layout m) refl
-    where
-      none : averaged n.layout m ≡ true → is_received n.layout m ≡ false → ⊥
-      none mean t = true≢false (sym (averaged_received s m mean) ∙ t)
-
-      go : (b : Bool) → is_received n.layout m ≡ b → share_at n.state m ≡ share_at k m
-      go true t = replicas_share s s' m m (itself n.layout m t) (record { values = same.values; fields = came_alike })
-      go false t =
-          s.state.shares m
-          ∙ same_test (λ (p q : Share). p ≡ q) (averaged n.layout m) (λ mean. absurd (none mean t)) (λ mean. refl)
-          ∙ sym (s'.state.shares m)
 
 -- ---- two nodes
 
@@ -107,10 +91,5 @@ own_bits {n} {n'} s s' m same p =
 pub own_values : {n n' : Node} → Sound n → Sound n' → (m : ℕ) → SameOwn n n' m
     → SameValues (state_at (next n close).state m) (state_at (next n' close).state m)
 own_values {n} {n'} s s' m same =
-    one_layout (λ (k : Node). Sound k → SameOwn n k m → SameValues (state_at (close_by_shares n) m) (state_at (close_by_shares k) m)) n n' same.layout
+    one_layout (λ (k : Node). Sound k → SameOwn n k m → SameValues (state_at (close_of n) m) (state_at (close_of k) m)) n n' same.layout
     (λ t o. values_alike s t m o) s' same
-
--- and before it they have the same share of the round
-pub own_share : {n n' : Node} → Sound n → Sound n' → (m : ℕ) → SameOwn n n' m → share_at n.state m ≡ share_at n'.state m
-own_share {n} {n'} s s' m same =
-    one_layout (λ (k : Node). Sound k → SameOwn n k m → share_at n.state m ≡ share_at k.state m) n n' same.layout (λ t o. share_alike s t m o) s' same

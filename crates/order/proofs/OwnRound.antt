@@ -11,13 +11,12 @@ use lib.Dec.{ltb}
 use lib.IntN.{ℤ}
 use Rattle.packing.specs.Places.{Agree}
 use Rattle.used.proofs.Runs.{same_tests}
-use Rattle.store.specs.Node.{Layout, Node, message_count, is_sent, is_delivered, message_at, laid_at, delivery_at, state_at, share_at, data_at}
+use Rattle.store.specs.Node.{Layout, Node, message_count, is_sent, is_delivered, message_at, laid_at, delivery_at, state_at, data_at}
 use Rattle.own.specs.declared.Owner.{Owner}
 use Rattle.own.specs.Own.{is_in, cells_of}
 use Rattle.own.specs.SoundLayout.{message_places, its_status_places}
 use Rattle.node.specs.Calls.{receive_answer, received_place}
-use Rattle.instance.specs.Instance.{came}
-use Rattle.closing.specs.Closing.{is_received}
+use Rattle.closing.specs.Closing.{came, is_received}
 use Rattle.node.specs.Sound.{Sound}
 use Rattle.calls.specs.Relations.{Call, close, receive, seen_of, next, final}
 use Rattle.order.specs.Flag.{answered}
@@ -26,7 +25,7 @@ use Rattle.order.specs.Deliveries.{DeliveredWith, LastDelivery, OneRound, SameAr
 use Rattle.order.proofs.Kept.{final_layout, final_sound}
 use Rattle.order.proofs.Replicas.{in_layout}
 use Rattle.order.proofs.ReceivedKept.{round_kept, received_not_sent}
-use Rattle.order.proofs.OwnBits.{refused, own_bits, own_values, own_share}
+use Rattle.order.proofs.OwnBits.{refused, own_bits, own_values}
 use Rattle.order.proofs.DeliveryHistory.{delivery_history}
 
 -- ---- what only a closing changes
@@ -115,7 +114,3 @@ module _ {n n' : Node} (s : Sound n) (s' : Sound n') (m : ℕ) (received : is_re
   -- and so are its earlier values in the next round
   pub own_round_values : SameValues (state_at (next (final n l) close).state m) (state_at (next (final n' l') close).state m)
   own_round_values = own_values (final_sound s l) (final_sound s' l') m own_end
-
-  -- before it both have the same share
-  pub own_round_share : share_at (final n l).state m ≡ share_at (final n' l').state m
-  own_round_share = own_share (final_sound s l) (final_sound s' l') m own_end

@@ -13,7 +13,7 @@ use Rattle.store.specs.Node.{Layout, State, Node, message_count, is_sent, no_sta
 use Rattle.own.proofs.Lists.{by_test}
 use Rattle.closing.specs.Closing.{is_received}
 use Rattle.node.specs.Calls.{outcome, send_answer, send_of, invalidate_answer, invalidate_of, assemble_answer, assemble_of, consumed_answer, consumed_of}
-use Rattle.node.specs.Calls.{deliver_answer, exchanged, deliver_of}
+use Rattle.node.specs.Calls.{deliver_answer, deliver_of}
 use Rattle.node.proofs.Answers.{send_access, invalidate_access}
 use Rattle.calls.specs.Relations.{Call, send, invalidate, assemble, consumed, read_flag, deliver, close, receive, next, final}
 use Rattle.order.specs.Order.{there}
@@ -33,7 +33,7 @@ module _ (n : Node) (m : ℕ) (not_sent : is_sent (message_at n.layout m) ≡ fa
   Stays k = state_at k m ≡ state_at n.state m
 
   one_call : (c : Call) → (c ≡ close → ⊥) → state_at (next n c).state m ≡ state_at n.state m
-  unfolding send_of invalidate_of assemble_of consumed_of deliver_of exchanged
+  unfolding send_of invalidate_of assemble_of consumed_of deliver_of
   one_call (send i v) no-close =
       by_answer Stays n (send_answer n.layout i v) _ refl
       (λ e. get_or-set_other n.state.messages i m _ no_state (other i (send_access n.layout i v e)))

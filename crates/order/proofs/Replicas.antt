@@ -2,12 +2,12 @@
 -- Each is the same of two fields that lie alike and came alike, since unpacking reads the bits at its places and no others. So the instances are the
 -- same, in the same order, and the two messages settle alike. They may have had another validity and status: a closing looks at neither.
 -- Assumes nothing.
-use mathlib.Core.Path.{◌≡◌, refl, sym, ap, ap₂, ◌∙◌}
-use mathlib.Core.Bool.{Bool, true, false, not, cond, ◌&&◌, and-eq-true_iff}
+use mathlib.Core.Path.{◌≡◌, refl, sym, ap, ◌∙◌}
+use mathlib.Core.Bool.{Bool, true, false, not, ◌&&◌, and-eq-true_iff}
 use mathlib.Core.List.{List, [], ◌∷◌}
 use Prim.Native.Nat.{ℕ, ◌<◌}
 use lib.IntN.{ℤ}
-use lib.ListN.{length, length-map}
+use lib.ListN.{length}
 use borrow.Author.Tests.{eqb-true}
 use Rattle.packing.proofs.Frame.{agree}
 use Rattle.agreement.specs.declared.Agreed.{Agreed}
@@ -15,18 +15,15 @@ use Rattle.agreement.specs.declared.Agreed.TheVariants.{Value, NoResult}
 use Rattle.record.specs.declared.Field.{Field as FieldRecord}
 use Rattle.store.specs.declared.Message.{Message}
 use Rattle.store.specs.declared.MessageState.{MessageState}
-use Rattle.store.specs.declared.Share.{Share}
-use Rattle.store.specs.Node.{Layout, Node, frame_at, message_at, laid_at, state_at, share_at, data_at, no_share}
+use Rattle.store.specs.Node.{Layout, Node, frame_at, message_at, laid_at, state_at, data_at}
 use Rattle.message.specs.Messages.{passes_now, filtered, agreed_by, agreed_on, settled}
 use Rattle.message.specs.Fields.{status_places}
 use Rattle.own.specs.declared.Owner.{Owner}
-use Rattle.own.specs.Own.{chosen, is_in, cells_of, fields_of}
+use Rattle.own.specs.Own.{is_in, cells_of, fields_of}
 use Rattle.own.specs.SoundLayout.{SoundLayout, message_places, its_status_places}
 use Rattle.own.proofs.Lists.{same_test, Every}
 use Rattle.own.proofs.Owners.{cell_names, fields_named}
-use Rattle.instance.specs.Instance.{came, status_set, counts, value_in, instances, none_came}
-use Rattle.shares.specs.Shares.{averaged, fresh_look}
-use Rattle.closing.specs.Closing.{closed_state}
+use Rattle.closing.specs.Closing.{came, status_set, counts, value_in, instances, none_came, closed_state}
 use Rattle.node.specs.Sound.{Sound}
 use Rattle.node.proofs.Delivered.{data_length}
 use Rattle.calls.specs.Relations.{close, receive, seen_of, next}
@@ -34,7 +31,6 @@ use Rattle.order.specs.Own.{SameValues, SameInstance}
 use Rattle.order.specs.Replicas.{FieldByField, SameMessage, LieAlike, Replicas, CameAlike}
 use Rattle.order.proofs.Chosen.{pairwise_more, all_pairwise, chosen_pairwise, each_field}
 use Rattle.order.proofs.Shown.{received_closed, closed_shown}
-use Rattle.order.proofs.ReceivedKept.{received_not_sent}
 
 -- ---- one field
 
@@ -107,17 +103,6 @@ module _ {n n' : Node} (s : Sound n) (s' : Sound n') (m m' : ℕ) (width : (mess
     unfolding none_came
     none_alike = all_pairwise _ _ _ _ (by_field _ (λ x x' k k' lie same. ap not same.frame))
 
-    pub came_alike : length (chosen (came n.state) (fields_of n.layout (Owner.Message m)))
-        ≡ length (chosen (came n'.state) (fields_of n'.layout (Owner.Message m')))
-    came_alike =
-        let one : FieldRecord → ℕ = (λ x. 1) in
-        let alike = chosen_pairwise (came n.state) (came n'.state) one one _ _
-        (by_field (λ x x'. (came n.state x ≡ came n'.state x') × (came n.state x ≡ true → one x ≡ one x'))
-        (λ x x' k k' lie same. (same.frame, λ t. refl))) in
-        sym (length-map (chosen (came n.state) (fields_of n.layout (Owner.Message m))) one)
-        ∙ ap length alike
-        ∙ length-map (chosen (came n'.state) (fields_of n'.layout (Owner.Message m'))) one
-
     pub instances_alike : instances n m ≡ instances n' m'
     unfolding instances
     instances_alike =
@@ -176,29 +161,3 @@ module _ {n n' : Node} (s : Sound n) (s' : Sound n') (m m' : ℕ) (replicas : Re
   -- and the next closing finds the same values
   pub replicas_values : SameValues (state_at (next n close).state m) (state_at (next n' close).state m')
   replicas_values = rw (received_closed s m replicas.received, received_closed s' m' replicas.received') closed_alike.values
-
-  -- and both have the same share
-  mean_alike : averaged n.layout m ≡ averaged n'.layout m'
-  mean_alike =
-      let message = replicas.message in
-      rw (
-        received_not_sent n.layout m replicas.received,
-        received_not_sent n'.layout m' replicas.received',
-        message.agreement,
-        message.sign,
-      ) refl
-
-  look_alike : fresh_look n m ≡ fresh_look n' m'
-  unfolding fresh_look
-  look_alike =
-      let message = replicas.message in
-      rw (
-        instances_alike s s' m m' message.width message.sign replicas.fields same.fields,
-        came_alike s s' m m' message.width message.sign replicas.fields same.fields,
-      ) refl
-
-  pub replicas_share : share_at n.state m ≡ share_at n'.state m'
-  replicas_share =
-      s.state.shares m
-      ∙ ap₂ (λ (b : Bool) (p : Share). cond b p no_share) mean_alike look_alike
-      ∙ sym (s'.state.shares m')

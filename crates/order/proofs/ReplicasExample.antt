@@ -19,7 +19,6 @@ use Rattle.store.specs.Node.{Node}
 use Rattle.start.specs.Start.{
   table,
   selected,
-  list_frame,
   laid_frame,
   frame_by_frame,
   start_message,
@@ -37,9 +36,8 @@ use Rattle.start.specs.Start.{
 use Rattle.message.specs.Messages.{passes_now, agreed_by, filtered}
 use Rattle.message.specs.Fields.{status_places}
 use Rattle.own.specs.Own.{chosen, changed, owns, cells_of}
-use Rattle.node.specs.Calls.{deliver_answer, kept, exchanged, deliver_of, receive_answer, received_place}
-use Rattle.instance.specs.Instance.{came, status_set, counts, value_in, instances, none_came}
-use Rattle.closing.specs.Closing.{closed_state, closed_from_share, is_received, close_messages, forget, close_with}
+use Rattle.node.specs.Calls.{deliver_answer, kept, deliver_of, receive_answer, received_place}
+use Rattle.closing.specs.Closing.{came, status_set, counts, value_in, instances, none_came, closed_state, is_received, close_messages, forget, close_of}
 use Rattle.calls.specs.Relations.{deliver, close, receive, value, sees, seen_of, next, final}
 use Rattle.order.specs.Replicas.{Replicas, CameAlike}
 use Rattle.order.specs.Mirror.{after_round}
@@ -51,7 +49,7 @@ use Rattle.order.proofs.Replicas.{replicas_agree}
 replicas : Replicas (receiver_alone 0 188).layout receiver_among.layout 0 1
 unfolding
     receiver_alone receiver_among alone_file among_file record_of byte_at word_at frame_at message_at field_at tally any_below least_below
-    start_layout start_frames start_index start_messages start_fields table selected list_frame laid_frame frame_by_frame start_message_or_none start_message start_laid
+    start_layout start_frames start_index start_messages start_fields table selected laid_frame frame_by_frame start_message_or_none start_message start_laid
     chosen cells_of owns is_received
 replicas =
     record {
@@ -72,8 +70,8 @@ came_alike : CameAlike one other 0 1
 unfolding
     receiver_alone receiver_among alone_file among_file record_of byte_at word_at frame_at message_at field_at tally any_below least_below
     start_layout start_state start_frames start_index start_messages start_states start_fields
-    table selected list_frame laid_frame frame_by_frame start_message_or_none start_message state_or_none start_laid
-    chosen cells_of owns deliver_of exchanged deliver_answer kept came
+    table selected laid_frame frame_by_frame start_message_or_none start_message state_or_none start_laid
+    chosen cells_of owns deliver_of deliver_answer kept came
     bit_of bit_at place_of frame_bit bit_places places in_frame places_in status_places
 came_alike =
     record {
@@ -89,10 +87,10 @@ alone_shows : (p : ℤ)
 unfolding
     receiver_alone alone_file record_of byte_at word_at frame_at message_at field_at tally any_below least_below
     start_layout start_state start_frames start_index start_messages start_states start_fields
-    table selected list_frame laid_frame frame_by_frame start_message_or_none start_message state_or_none start_laid
-    chosen cells_of owns deliver_of exchanged deliver_answer kept came
+    table selected laid_frame frame_by_frame start_message_or_none start_message state_or_none start_laid
+    chosen cells_of owns deliver_of deliver_answer kept came
     bit_of bit_at place_of frame_bit bit_places places in_frame places_in status_places
-    is_received close_with forget close_messages changed closed_from_share closed_state instances none_came counts status_set value_in unpacked
+    is_received close_of forget close_messages changed closed_state instances none_came counts status_set value_in unpacked
     agreed_by agreed vote one_that ahead count_of filtered passes_now passes rules compared bound value_of pattern_of all_of receive_answer received_place
 alone_shows p = (refl, refl, refl)
 
@@ -103,10 +101,10 @@ lowest_picked : (p : ℤ)
 unfolding
     receiver_twice twice_file record_of byte_at word_at frame_at message_at field_at tally any_below least_below
     start_layout start_state start_frames start_index start_messages start_states start_fields
-    table selected list_frame laid_frame frame_by_frame start_message_or_none start_message state_or_none start_laid
-    chosen cells_of owns deliver_of exchanged deliver_answer kept came
+    table selected laid_frame frame_by_frame start_message_or_none start_message state_or_none start_laid
+    chosen cells_of owns deliver_of deliver_answer kept came
     bit_of bit_at place_of frame_bit bit_places places in_frame places_in status_places
-    is_received close_with forget close_messages changed closed_from_share closed_state instances none_came counts status_set value_in unpacked
+    is_received close_of forget close_messages changed closed_state instances none_came counts status_set value_in unpacked
     agreed_by agreed filtered passes_now passes rules value_of pattern_of all_of receive_answer received_place
 lowest_picked p = (refl, refl)
 

@@ -22,7 +22,6 @@ use Rattle.store.specs.Node.{Node, laid_at}
 use Rattle.start.specs.Start.{
   table,
   selected,
-  list_frame,
   laid_frame,
   frame_by_frame,
   start_message,
@@ -44,9 +43,8 @@ use Rattle.own.specs.Own.{chosen, changed, owns, cells_of}
 use Rattle.own.specs.SoundLayout.{message_places, its_status_places}
 use Rattle.own.proofs.Owners.{fields_named}
 use Rattle.message.specs.Messages.{passes_now, agreed_by, filtered}
-use Rattle.node.specs.Calls.{deliver_answer, kept, exchanged, deliver_of, receive_answer, received_place}
-use Rattle.instance.specs.Instance.{came, status_set, counts, value_in, instances, none_came}
-use Rattle.closing.specs.Closing.{closed_state, closed_from_share, is_received, close_messages, forget, close_with}
+use Rattle.node.specs.Calls.{deliver_answer, kept, deliver_of, receive_answer, received_place}
+use Rattle.closing.specs.Closing.{came, status_set, counts, value_in, instances, none_came, closed_state, is_received, close_messages, forget, close_of}
 use Rattle.node.specs.Load.{load_of}
 use Rattle.node.specs.Sound.{Sound}
 use Rattle.calls.specs.Relations.{Call, deliver, close, receive, value, sees, seen_of, next, final}
@@ -183,9 +181,9 @@ once_shown : (p : ℤ) → seen_of (next (final loaded delivered_once) close) (r
 unfolding
     received_file record_of tally least_below any_below byte_at word_at frame_at message_at field_at
     start_layout start_state start_frames start_index start_messages start_states start_fields
-    table selected list_frame laid_frame frame_by_frame start_message_or_none start_message state_or_none start_laid
-    chosen changed cells_of owns all_of deliver_of exchanged deliver_answer kept
-    close_with forget close_messages closed_from_share closed_state is_received instances none_came counts came status_set value_in
+    table selected laid_frame frame_by_frame start_message_or_none start_message state_or_none start_laid
+    chosen changed cells_of owns all_of deliver_of deliver_answer kept
+    close_of forget close_messages closed_state is_received instances none_came counts came status_set value_in
     agreed_by agreed filtered passes_now passes rules receive_answer received_place
     places_in in_frame places bit_places frame_bit place_of bit_at bit_of unpacked value_of extend is_width pattern_of
 once_shown p = refl

@@ -1,6 +1,6 @@
 -- What a receive shows of a received message after a closing: the status that the closing gave it, and with 0 the value that it holds then.
 -- Assumes nothing.
-use mathlib.Core.Path.{◌≡◌, refl, ap, ◌∙◌}
+use mathlib.Core.Path.{◌≡◌, refl, ◌∙◌}
 use mathlib.Core.Bool.{true, false, cond, not, and-eq-true_iff}
 use Prim.Native.Nat.{ℕ, ◌<◌}
 use native.Mathlib.Omega.{arith}
@@ -9,14 +9,13 @@ use lib.IntN.{ℤ}
 use borrow.Author.Tests.{lt-ltb, not-true}
 use Rattle.store.specs.declared.Message.{Message}
 use Rattle.store.specs.declared.MessageState.{MessageState}
-use Rattle.store.specs.Node.{Layout, State, Node, message_count, is_sent, held_value, message_at, state_at}
+use Rattle.store.specs.Node.{Layout, Node, message_count, is_sent, held_value, message_at, state_at}
 use Rattle.message.specs.Messages.{can_hold, passes_now, filtered}
 use Rattle.node.specs.Calls.{receive_answer, received_place}
-use Rattle.closing.specs.Closing.{closed_state, is_received, close_by_shares}
+use Rattle.closing.specs.Closing.{closed_state, is_received, close_of}
 use Rattle.own.specs.SoundLayout.{SoundLayout}
 use Rattle.node.specs.Sound.{Sound}
 use Rattle.node.proofs.Closed.{state_closed}
-use Rattle.node.proofs.Shares.{closing_means}
 use Rattle.node.proofs.Kept.{pattern_held}
 use Rattle.calls.specs.Relations.{close, receive, value, sees, seen_of, next}
 
@@ -32,8 +31,8 @@ module _ {n : Node} (s : Sound n) (m : ℕ) (received : is_received n.layout m �
   abbrev its : Message
   its = message_at n.layout m
 
-  pub received_closed : state_at (close_by_shares n) m ≡ closed_state n m before
-  received_closed = ap (λ (k : State). state_at k m) (closing_means s) ∙ state_closed s closed_state m ∙ rw received refl
+  pub received_closed : state_at (close_of n) m ≡ closed_state n m before
+  received_closed = state_closed s m ∙ rw received refl
 
   -- p is what the caller's place holds
   module _ (p : ℤ) where

@@ -14,18 +14,17 @@ use lib.ListN.{length}
 use borrow.Author.Tests.{eqb-true, eq-eqb}
 use Rattle.store.specs.declared.Stage.{Stage}
 use Rattle.store.specs.declared.Stage.TheVariants.{Waiting, Loaded, Gone}
-use Rattle.store.specs.Node.{State, Node, is_sent_frame, frame_at, laid_at, stage_at, no_stage}
+use Rattle.store.specs.Node.{State, Node, laid_at, stage_at, no_stage}
 use Rattle.message.specs.declared.Change.{Change}
 use Rattle.message.specs.Fields.{stage_after, is_gone}
 use Rattle.own.specs.declared.Owner.{Owner}
 use Rattle.own.specs.Own.{is_in, names, cells_of}
 use Rattle.node.specs.Calls.{outcome, moved, send_answer, send_of, invalidate_answer, invalidate_of}
-use Rattle.node.specs.Calls.{assemble_answer, assemble_of, consumed_answer, consumed_of, gone_at, deliver_answer, exchanged, deliver_of}
-use Rattle.closing.specs.Closing.{close_messages, forget, close_with}
+use Rattle.node.specs.Calls.{assemble_answer, assemble_of, consumed_answer, consumed_of, gone_at, deliver_answer, deliver_of}
+use Rattle.closing.specs.Closing.{close_messages, forget, close_of}
 use Rattle.node.specs.Sound.{Sound}
 use Rattle.own.proofs.Lists.{by_test, changed_at}
-use Rattle.own.proofs.Owners.{cell_names, fields_named, sent_fields}
-use Rattle.node.proofs.Answers.{assemble_access, consumed_access}
+use Rattle.own.proofs.Owners.{fields_named}
 use Rattle.calls.specs.Relations.{Call, send, invalidate, assemble, consumed, read_flag, deliver, close, receive, answer_of, next, final}
 use Rattle.order.specs.Order.{In, here, there, first, later}
 use Rattle.order.specs.Flag.{Answered, with_answer, succeeded, answered, Sent, GoesOut}
@@ -75,15 +74,8 @@ module _ {n : Node} {d m f : ℕ} (s : Sound n) (x : FieldOf n.layout d m f) whe
       changed_at _ _ n.state.stages d no_stage room
 
   -- the fields of an owner move on
-  moved_own : (k : Change) (o : Owner) → is_in d (cells_of n.layout o) ≡ true → stage_at (moved k o n) d ≡ stage_after k stage
-  moved_own k o t = rw (moved_at k o, t) refl
-
-  -- it is its message's, and its frame's, if that is sent
-  its_message_lem : is_in d (cells_of n.layout (Owner.Message m)) ≡ true
-  its_message_lem = (fields_named s.layout (Owner.Message m) d).1 (x.known, eq-eqb _ m x.message)
-
-  its_frame_lem : is_sent_frame (frame_at n.layout f) ≡ true → is_in d (cells_of n.layout (Owner.Frame f)) ≡ true
-  its_frame_lem goes = (sent_fields s.layout f d goes).1 (x.known, x.frame)
+  moved_own : (k : Change) (o : Owner) → names o (laid_at n.layout d) ≡ true → stage_at (moved k o n) d ≡ stage_after k stage
+  moved_own k o t = rw (moved_at k o, (fields_named s.layout o d).1 (x.known, t)) refl
 
   -- the call takes it to its stage in state r
   abbrev To : Call → State → Type 0
@@ -94,13 +86,13 @@ module _ {n : Node} {d m f : ℕ} (s : Sound n) (x : FieldOf n.layout d m f) whe
       → To c (moved k o n)
   by_owner c k o mine =
       rw (moved_at k o)
-      (by_test (Takes m f n c stage) (is_in d (cells_of n.layout o)) (λ t. mine (cell_names n.layout o d t)) (λ t. stays))
+      (by_test (Takes m f n c stage) (is_in d (cells_of n.layout o)) (λ t. mine ((fields_named s.layout o d).0 t).1) (λ t. stays))
 
   by_answer : (c : Call) (a : ℕ) (r : State) → (a ≡ 0 → To c r) → To c (outcome a r n).node.state
   by_answer c a r h = by_test (To c) (eqb a 0) (λ t. h (eqb-true a 0 t)) (λ t. stays)
 
   takes : (c : Call) → To c (next n c).state
-  unfolding send_of invalidate_of assemble_of consumed_of deliver_of exchanged close_with close_messages forget
+  unfolding send_of invalidate_of assemble_of consumed_of deliver_of close_of close_messages forget
   takes (send i v) =
       by_answer (send i v) (send_answer n.layout i v) _
       (λ a. by_owner (send i v) Change.Send (Owner.Message i)
@@ -123,7 +115,7 @@ module _ {n : Node} {d m f : ℕ} (s : Sound n) (x : FieldOf n.layout d m f) whe
   -- the calls that move it
   pub send_waiting : (v : ℤ) → answer_of n (send m v) ≡ 0 → stage_at (next n (send m v)).state d ≡ Waiting
   unfolding send_of
-  send_waiting v a = rw a (moved_own Change.Send (Owner.Message m) its_message_lem ∙ waiting stage)
+  send_waiting v a = rw a (moved_own Change.Send (Owner.Message m) (eq-eqb _ m x.message) ∙ waiting stage)
     where
       waiting : (t : Stage) → stage_after Change.Send t ≡ Waiting
       waiting Waiting = refl
@@ -134,13 +126,13 @@ module _ {n : Node} {d m f : ℕ} (s : Sound n) (x : FieldOf n.layout d m f) whe
   unfolding assemble_of
   assemble_loads b =
       by_done n (assemble f b) (λ (c : Call). stage_at (next n c).state d ≡ stage_after Change.Load stage)
-      (λ a. rw a (moved_own Change.Load (Owner.Frame f) (its_frame_lem (assemble_access n f (length b) a))))
+      (λ a. rw a (moved_own Change.Load (Owner.Frame f) (eq-eqb _ f x.frame)))
 
   consumed_goes : (c : Call) → succeeded (consumed f) ≡ with_answer n c → stage_at (next n c).state d ≡ stage_after Change.Consume stage
   unfolding consumed_of
   consumed_goes =
       by_done n (consumed f) (λ (c : Call). stage_at (next n c).state d ≡ stage_after Change.Consume stage)
-      (λ a. rw a (moved_own Change.Consume (Owner.Frame f) (its_frame_lem (consumed_access n.layout f a))))
+      (λ a. rw a (moved_own Change.Consume (Owner.Frame f) (eq-eqb _ f x.frame)))
 
 -- ---- all calls of a list
 

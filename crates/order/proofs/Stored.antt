@@ -1,5 +1,5 @@
 -- The nodes that a memory holds. Memory holds a node if it has a cell for each place, numbers that are bytes where a cell has a byte, and words of 32
--- bits or 64. The node of a memory is such a node, since it is `Shaped` and its bytes are the memory; and such a node is the node of its own bytes, which
+-- bits. The node of a memory is such a node, since it is `Shaped` and its bytes are the memory; and such a node is the node of its own bytes, which
 -- are a memory. It goes region by region.
 -- Assumes nothing.
 use mathlib.Core.Path.{◌≡◌, ap, sym, subst, ◌∙◌}
@@ -12,7 +12,6 @@ use Rattle.whole.specs.Whole.{Bytes}
 use Rattle.store.specs.declared.Stage.{Stage}
 use Rattle.store.specs.declared.Message.{Message}
 use Rattle.store.specs.declared.MessageState.{MessageState}
-use Rattle.store.specs.declared.Share.{Share}
 use Rattle.store.specs.Memory.{cells}
 use Rattle.store.specs.Node.{
   Layout,
@@ -29,9 +28,7 @@ use Rattle.store.specs.Node.{
   delivery_bytes,
   message_state_bytes,
   stage_bytes,
-  share_bytes,
   state_size,
-  share_size,
   node_size,
   node_of,
   layout_bytes,
@@ -43,15 +40,13 @@ use Rattle.store.specs.Node.{
   no_delivery,
   no_state,
   no_stage,
-  no_share,
 }
-use Rattle.store.proofs.Cells.{frame_size, message_size, laid_size, listed_size, delivery_size, state_size_lem, stage_size, share_size}
+use Rattle.store.proofs.Cells.{frame_size, message_size, laid_size, listed_size, delivery_size, state_size_lem, stage_size}
 use Rattle.store.proofs.Laws.{node_shaped}
 use Rattle.store.proofs.Regions.{length_cells}
 use Rattle.store.proofs.RoundTrip.{bytes_node, node_bytes}
 use Rattle.own.proofs.Lists.{Every}
 use Rattle.calls.specs.Relations.{Memory}
-use Rattle.shares.specs.Shares.{StoredShare}
 
 -- ---- bytes
 
@@ -179,16 +174,6 @@ stage_back : (t : Stage) → AllBytes (stage_bytes t) → StoredStage t → Fits
 unfolding stage_bytes
 stage_back t b stored = record { code = b.each.0; stored = stored }
 
-share_there : (p : Share) → StoredShare p → AllBytes (share_bytes p)
-unfolding share_bytes
-share_there p h = record { each = omega arith }
-
-share_back : (p : Share) → AllBytes (share_bytes p) → p.sum < 2 ^ 64 → StoredShare p
-unfolding share_bytes
-share_back p b sum =
-    let behind = b.each.1.1.1.1.1.1.1.1 in
-    record { sum = sum; number = behind.0; came = behind.1.0 }
-
 -- ---- nodes
 
 pub record StoredLayout (l : Layout) : Type 0 where
@@ -204,7 +189,6 @@ pub record StoredState (s : State) : Type 0 where
   pub deliveries : Region FitsDelivery 32 s.deliveries
   pub messages : Region FitsState 32 s.messages
   pub stages : Region FitsStage 128 s.stages
-  pub shares : Region StoredShare 32 s.shares
 
 -- memory can hold the node
 pub record Stored (n : Node) : Type 0 where
@@ -223,8 +207,7 @@ memory_stored b memory =
     let (messages, behind') = bytes_split (cells message_bytes n.layout.messages) _ behind in
     let (fields, index) = bytes_split (cells laid_bytes n.layout.fields) _ behind' in
     let (deliveries, behind'') = bytes_split (cells delivery_bytes n.state.deliveries) _ state in
-    let (states, behind''') = bytes_split (cells message_state_bytes n.state.messages) _ behind'' in
-    let (stages, shares) = bytes_split (cells stage_bytes n.state.stages) _ behind''' in
+    let (states, stages) = bytes_split (cells message_state_bytes n.state.messages) _ behind'' in
     record {
       layout =
           record {
@@ -241,7 +224,6 @@ memory_stored b memory =
             deliveries = region_of delivery_bytes delivery_back no_delivery shaped.deliveries deliveries shaped.bytes;
             messages = region_of message_state_bytes state_back no_state shaped.states states shaped.held;
             stages = region_of stage_bytes stage_back no_stage shaped.stages stages shaped.codes;
-            shares = region_of share_bytes share_back no_share shaped.shares shares shaped.sums;
           };
     }
 
@@ -260,8 +242,6 @@ module _ {n : Node} (s : Stored n) where
         held = λ m h. (cell_at_lem no_state s.state.messages m h).held;
         stages = s.state.stages.all;
         codes = λ d h. (cell_at_lem no_stage s.state.stages d h).stored;
-        shares = s.state.shares.all;
-        sums = λ m h. (cell_at_lem no_share s.state.shares m h).sum;
       }
 
   stored_bytes : AllBytes (bytes_of n)
@@ -274,11 +254,9 @@ module _ {n : Node} (s : Stored n) where
       let deliveries = cells_bytes delivery_bytes delivery_there s.state.deliveries in
       let states = cells_bytes message_state_bytes state_there s.state.messages in
       let stages = cells_bytes stage_bytes stage_there s.state.stages in
-      let shares = cells_bytes share_bytes share_there s.state.shares in
       let numbers : AllBytes (n.layout.frame_number ∷ n.layout.message_number ∷ n.layout.field_number ∷ []) =
       record { each = (s.layout.frame_number, (s.layout.message_number, (s.layout.field_number, tt))) } in
-      bytes_join (bytes_join numbers (bytes_join frames (bytes_join messages (bytes_join fields index))))
-      (bytes_join deliveries (bytes_join states (bytes_join stages shares)))
+      bytes_join (bytes_join numbers (bytes_join frames (bytes_join messages (bytes_join fields index)))) (bytes_join deliveries (bytes_join states stages))
 
   stored_size : length (bytes_of n) ≡ node_size
   unfolding layout_bytes state_bytes
@@ -290,7 +268,6 @@ module _ {n : Node} (s : Stored n) where
       let deliveries = cells_size delivery_bytes 33 delivery_size s.state.deliveries in
       let states = cells_size message_state_bytes state_size state_size_lem s.state.messages in
       let stages = cells_size stage_bytes 1 stage_size s.state.stages in
-      let shares = cells_size share_bytes share_size share_size s.state.shares in
       simp length-append (omega arith)
 
   -- is a memory, and that of this node

@@ -12,36 +12,29 @@ use lib.IntN.{ℤ}
 use lib.ListN.{length, take, drop, replicate, length-take}
 use lib.Seq.{length-paste}
 use Rattle.whole.specs.Whole.{Bytes}
-use Rattle.packing.specs.Values.{value_of, pattern_of}
+use Rattle.packing.specs.Values.{pattern_of}
 use Rattle.packing.proofs.Values.{pattern_below}
-use Rattle.agreement.specs.Agreement.{quotient_of}
 use Rattle.agreement.specs.declared.Agreed.{Agreed}
 use Rattle.agreement.specs.declared.Agreed.TheVariants.{Value, NoResult}
 use Rattle.store.specs.declared.Stage.{Stage}
 use Rattle.store.specs.declared.Stage.TheVariants.{Waiting, Loaded, Gone}
 use Rattle.store.specs.declared.Message.{Message}
 use Rattle.store.specs.declared.MessageState.{MessageState}
-use Rattle.store.specs.declared.Share.{Share}
-use Rattle.store.specs.Node.{Layout, Delivery, State, Node, is_averaged, message_at, share_at, no_delivery, with_status, with_valid, with_held, node_of, bytes_of}
+use Rattle.store.specs.Node.{Layout, Delivery, Node, no_delivery, with_status, with_valid, with_held, node_of, bytes_of}
 use Rattle.store.proofs.Parts.{bytes_drop, bytes_take}
 use Rattle.store.proofs.RoundTrip.{bytes_node}
 use Rattle.message.specs.declared.Change.{Change}
-use Rattle.message.specs.Messages.{passes_now, offered, filtered, agreed_by, agreed_on, settled, settled_by}
+use Rattle.message.specs.Messages.{passes_now, offered, filtered, agreed_by, agreed_on, settled}
 use Rattle.message.specs.Fields.{stage_after}
 use Rattle.own.specs.Own.{changed}
-use Rattle.shares.specs.Shares.{StoredShare}
-use Rattle.shares.proofs.Laws.{put_held}
-use Rattle.shares.proofs.Fresh.{no_share_held}
 use Rattle.node.specs.Calls.{Outcome, left, kept}
-use Rattle.instance.specs.Instance.{instances, none_came}
-use Rattle.closing.specs.Closing.{closed_state, closed_from_share, close_messages, forget, close_with, close_by_shares}
+use Rattle.closing.specs.Closing.{instances, none_came, closed_state, close_messages, forget, close_of}
 use Rattle.own.proofs.Lists.{by_test, changed_length, Every}
 use Rattle.calls.specs.Relations.{Call, send, invalidate, assemble, consumed, read_flag, deliver, close, receive}
 use Rattle.calls.specs.Relations.{answer_of, seen_of, next, Memory, Does}
 use Rattle.order.specs.Order.{Numbered, here, there, results, Ran, done, step}
 use Rattle.order.specs.Runs.{BringsBytes, EachBringsBytes}
 use Rattle.order.proofs.Constructors.{closing}
-use Rattle.order.proofs.Exchanges.{outs, ins, exchange}
 use Rattle.order.proofs.Footprints.{Effect, effect, after, next_after}
 use Rattle.order.proofs.Stored.{bytes_all, all_bytes, bytes_join, Region, FitsDelivery, FitsState, FitsStage}
 use Rattle.order.proofs.Stored.{StoredState, Stored, memory_stored, stored_memory, stored_node}
@@ -89,13 +82,6 @@ module _ (g : Message) {s : MessageState} (h : FitsState s) where
   settled_fits none [] = status_fits _ (by_test (λ k. k < 256) none (λ t. omega arith) (λ t. omega arith)) h
   settled_fits none (v ∷ l) = agreed_fits (agreed_by g (v ∷ l))
 
-  settled_by_fits : (p : Share) → FitsState (settled_by g s p)
-  unfolding settled_by
-  settled_by_fits p =
-      by_test FitsState (eqb p.number 0)
-      (λ t. status_fits _ (by_test (λ k. k < 256) (eqb p.came 0) (λ u. omega arith) (λ u. omega arith)) h)
-      (λ t. agreed_fits (Value (quotient_of (value_of true 64 p.sum) p.number)))
-
 -- ---- a delivery, and a stage
 
 pub none_fits : FitsDelivery no_delivery
@@ -127,9 +113,6 @@ stage_fits Change.Consume (Gone k) h = h
 
 -- ---- a call
 
-exchange_fits : (l : Layout) (c : Call) (s : State) (m : ℕ) (p : Share) → StoredShare p → StoredShare (exchange l c s m p)
-exchange_fits l c s m p h = put_held _ (ins l c s m) (put_held p (outs l c s m) h)
-
 record Keeps (e : Effect) : Type 0 where
   deliveries : (y : Delivery) → FitsDelivery y → FitsDelivery (e.deliveries y)
   messages : (s : MessageState) → FitsState s → FitsState (e.messages s)
@@ -156,24 +139,16 @@ module _ {n : Node} (s : Stored n) where
         deliveries = region_changed FitsDelivery _ _ (λ i. keeps.deliveries) s.state.deliveries;
         messages = region_changed FitsState _ _ (λ i. keeps.messages) s.state.messages;
         stages = region_changed FitsStage _ _ (λ i. keeps.stages) s.state.stages;
-        shares = region_changed StoredShare _ _ (λ m. exchange_fits n.layout c n.state m) s.state.shares;
       }
   after_stored c brings false = s.state
 
-  closed_fits : (m : ℕ) (t : MessageState) → FitsState t → FitsState (closed_from_share n m t)
-  unfolding closed_from_share closed_state
-  closed_fits m t h =
-      by_test FitsState (is_averaged (message_at n.layout m)) (λ b. settled_by_fits _ h (share_at n.state m))
-      (λ b. settled_fits _ h (none_came n m) (instances n m))
-
-  close_stored : StoredState (close_by_shares n)
-  unfolding close_with forget close_messages
+  close_stored : StoredState (close_of n)
+  unfolding close_of forget close_messages closed_state
   close_stored =
       record {
         deliveries = region_changed FitsDelivery _ _ (λ f y h. none_fits) s.state.deliveries;
-        messages = region_changed FitsState _ _ closed_fits s.state.messages;
+        messages = region_changed FitsState _ _ (λ m t h. settled_fits _ h (none_came n m) (instances n m)) s.state.messages;
         stages = s.state.stages;
-        shares = region_changed StoredShare _ _ (λ m p h. no_share_held) s.state.shares;
       }
 
 call_stored : {n : Node} → Stored n → (c : Call) → BringsBytes c → Stored (next n c)

@@ -19,8 +19,8 @@ use Rattle.store.specs.Node.{Node, frame_bytes, message_bytes, laid_bytes, liste
 use Rattle.start.specs.Start.{
   table,
   selected,
-  stands_in,
-  stands_before,
+  lies_in,
+  lies_before,
   laid_frame,
   start_frame,
   frame_by_frame,
@@ -44,7 +44,6 @@ use Rattle.node.specs.Sound.{Sound}
 use Rattle.node.proofs.Starts.{load_makes, sound_load}
 use Rattle.own.proofs.Lists.{by_test, Every, every_more}
 use Rattle.calls.specs.Relations.{Memory, Loads}
-use Rattle.shares.specs.Shares.{StoredShare}
 use Rattle.order.proofs.Refusals.{load_refused}
 use Rattle.order.proofs.Stored.{AllBytes, every_join, FitsMessage, FitsDelivery, FitsState, FitsStage, Stored, stored_memory, stored_node}
 use Rattle.order.proofs.StoredCalls.{every_alike, none_fits}
@@ -101,8 +100,8 @@ module _ (s : List ℕ) (y : Bytes s) where
                 byte f 3,
                 byte f 4,
                 byte f 5,
-                tally_within (stands_before s F (F + M) f) D,
-                tally_within (stands_in s F (F + M) f) D,
+                tally_within (lies_before s (F + M) f) D,
+                tally_within (lies_in s (F + M) f) D,
               );
         })
 
@@ -137,17 +136,17 @@ module _ (s : List ℕ) (y : Bytes s) where
         })
         (λ t. record { valid = omega arith; status = omega arith; held = omega arith })
 
-    listed_frames : (f : ℕ) → Every (λ d. d < 256) (frame_by_frame s F (F + M) D f)
+    listed_frames : (f : ℕ) → Every (λ d. d < 256) (frame_by_frame s (F + M) D f)
     unfolding frame_by_frame
     listed_frames zero = tt
-    listed_frames (suc f) = every_join _ (frame_by_frame s F (F + M) D f) _ (listed_frames f) (every_selected (stands_in s F (F + M) f) D (omega arith))
+    listed_frames (suc f) = every_join _ (frame_by_frame s (F + M) D f) _ (listed_frames f) (every_selected (lies_in s (F + M) f) D (omega arith))
 
-    listed_fits : Every (λ d. AllBytes (listed_bytes d)) (start_index s F (F + M) D)
+    listed_fits : Every (λ d. AllBytes (listed_bytes d)) (start_index s (F + M) D)
     unfolding start_index listed_bytes
     listed_fits =
-        every_more (λ d. d < 256) (λ d. AllBytes (listed_bytes d)) (λ d h. record { each = (h, tt) }) (start_index s F (F + M) D)
-        (every_take _ 128 (frame_by_frame s F (F + M) D 32 ++ replicate 128 0)
-        (every_join _ (frame_by_frame s F (F + M) D 32) _ (listed_frames 32) (every_alike (λ d. d < 256) {a = 0} (omega arith) 128)))
+        every_more (λ d. d < 256) (λ d. AllBytes (listed_bytes d)) (λ d h. record { each = (h, tt) }) (start_index s (F + M) D)
+        (every_take _ 128 (frame_by_frame s (F + M) D 32 ++ replicate 128 0)
+        (every_join _ (frame_by_frame s (F + M) D 32) _ (listed_frames 32) (every_alike (λ d. d < 256) {a = 0} (omega arith) 128)))
 
     start_stored : Sound (start_of s F M D) → Stored (start_of s F M D)
     unfolding start_layout start_state start_frames start_messages start_fields start_states
@@ -168,11 +167,6 @@ module _ (s : List ℕ) (y : Bytes s) where
                 deliveries = record { all = sound.state.delivery_cells; each = every_alike FitsDelivery none_fits 32 };
                 messages = record { all = sound.state.message_cells; each = every_table _ _ (λ m. state_fits _ m) 0 32 };
                 stages = record { all = sound.state.stage_cells; each = every_alike FitsStage (record { code = omega arith; stored = refl }) 128 };
-                shares =
-                    record {
-                      all = sound.state.share_cells;
-                      each = every_alike StoredShare (record { sum = omega arith; number = omega arith; came = omega arith }) 32;
-                    };
               };
         }
 

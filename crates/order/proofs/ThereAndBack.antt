@@ -16,7 +16,7 @@ use borrow.Author.Tests.{lt-ltb, eq-eqb, ne_eqb, not-true}
 use Rattle.record.specs.declared.Field.{Field as FieldRecord}
 use Rattle.store.specs.declared.Message.{Message}
 use Rattle.store.specs.Node.{Delivery, Node, frame_count, message_count, has_status_bit, is_sent_frame, held_value, no_delivery, no_state}
-use Rattle.store.specs.Node.{frame_at, message_at, delivery_at, state_at, data_at, node_with}
+use Rattle.store.specs.Node.{frame_at, message_at, delivery_at, state_at, data_at, with_delivery, node_with}
 use Rattle.message.specs.Messages.{passes_now, offered, invalidated}
 use Rattle.message.proofs.Passed.{true_passes}
 use Rattle.own.specs.declared.Owner.{Owner}
@@ -24,9 +24,8 @@ use Rattle.own.specs.Own.{fields_of}
 use Rattle.own.specs.SoundLayout.{SoundField}
 use Rattle.own.proofs.Lists.{Every, every_more}
 use Rattle.node.specs.Calls.{send_of, invalidate_of}
-use Rattle.node.specs.Calls.{assemble_answer, assemble_of, assembled, deliver_answer, kept, exchanged, deliver_of}
-use Rattle.instance.specs.Instance.{came, status_set, counts, instances}
-use Rattle.closing.specs.Closing.{is_received}
+use Rattle.node.specs.Calls.{assemble_answer, assemble_of, assembled, deliver_answer, kept, deliver_of}
+use Rattle.closing.specs.Closing.{came, status_set, counts, instances, is_received}
 use Rattle.node.specs.Sound.{Sound}
 use Rattle.node.proofs.Answers.{send_tests, send_access, invalidate_tests, invalidate_status}
 use Rattle.node.proofs.Delivered.{kept_data}
@@ -78,7 +77,7 @@ module _ {s r : Node} (sender : Sound s) (receiver : Sound r) {m m' : ℕ} {x x'
   came_in = kept (delivery_at r.state x'.frame) sent
 
   abbrev after : Node
-  after = node_with r (exchanged r x'.frame sent)
+  after = node_with r (with_delivery r.state x'.frame came_in)
 
   delivered : next r (deliver x'.frame true sent) ≡ after
   unfolding deliver_of
@@ -88,7 +87,6 @@ module _ {s r : Node} (sender : Sound s) (receiver : Sound r) {m m' : ℕ} {x x'
   sound_after = rw delivered at (kept_sound receiver (deliver x'.frame true sent))
 
   delivery_after : delivery_at after.state x'.frame ≡ came_in
-  unfolding exchanged
   delivery_after =
       let room : x'.frame < length r.state.deliveries =
       omega (arith, its_field.frame, receiver.layout.few_frames, receiver.state.delivery_cells) in
@@ -106,7 +104,7 @@ module _ {s r : Node} (sender : Sound s) (receiver : Sound r) {m m' : ℕ} {x x'
 
   -- a field in another frame counts as before, and so does not
   others : Every (λ y. counts after y ≡ true → y.frame ≡ x'.frame) fields
-  unfolding instances counts came status_set exchanged
+  unfolding instances counts came status_set
   others = every_more _ _ other fields (chosen_none (counts r) _ fields fresh)
     where
       other : (y : FieldRecord) → counts r y ≡ false → counts after y ≡ true → y.frame ≡ x'.frame
@@ -126,12 +124,10 @@ module _ {s r : Node} (sender : Sound s) (receiver : Sound r) {m m' : ℕ} {x x'
   module _ (valid : goes_valid (message_at s.layout m) (state_at s.state m) ≡ true) where
     pub held_received : passes_now (message_at r.layout m') (state_at r.state m') v ≡ true
         → seen_of (after_round r x'.frame sent) (receive m' p) ≡ sees 0 (value v)
-    unfolding exchanged
     held_received passes = rw delivered (closed_passed sender sound_after mirror b assembles data_after here others p valid passes)
 
     held_stopped : passes_now (message_at r.layout m') (state_at r.state m') v ≡ false
         → seen_of (after_round r x'.frame sent) (receive m' p) ≡ sees 21 (value p)
-    unfolding exchanged
     held_stopped fails = rw delivered (closed_stopped sender sound_after mirror b assembles data_after here others p valid fails)
 
   -- as invalid: 22, and the place stays

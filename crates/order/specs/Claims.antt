@@ -1,11 +1,11 @@
 -- What holds of all calls together. Each line is a theorem; proofs/Claims.antt says where it is proved.
 -- Assumes nothing.
-use Rattle.std.specs.Prelude.{◌≡◌, Bool, true, false, List, [], ◌∷◌, map, ◌↔◌, ℕ, ◌/◌, ◌%◌, ◌<◌, ℤ, length, take}
+use Rattle.std.specs.Prelude.{◌≡◌, true, false, List, [], ◌∷◌, map, ◌↔◌, ℕ, ◌/◌, ◌%◌, ◌<◌, ℤ, length, take}
 use Rattle.whole.specs.Whole.{Bytes}
-use Rattle.packing.specs.Values.{value_of, pattern_of}
+use Rattle.packing.specs.Values.{pattern_of}
 use Rattle.float.specs.Rounding.{over}
 use Rattle.agreement.specs.declared.Agreed.TheVariants.{Value, NoResult}
-use Rattle.agreement.specs.Agreement.{sum_of, mean_of}
+use Rattle.agreement.specs.Agreement.{mean_of}
 use Rattle.agreement.specs.Floats.{left_of, sum_from, left_agreed}
 use Rattle.layout.specs.Numbers.{number_of, byte_of}
 use Rattle.layout.specs.Verdict.{verdict}
@@ -13,20 +13,18 @@ use Rattle.layout.specs.declared.Refusal.{Refusal}
 use Rattle.layout.specs.declared.Verdict.{Verdict}
 use Rattle.record.specs.declared.Field.{Field as FieldRecord}
 use Rattle.store.specs.Node.{Layout, Node, is_sent, is_float, is_delivered, is_valid, held_value, layout_size, node_of, message_at, laid_at, delivery_at, state_at}
-use Rattle.store.specs.Node.{share_at, no_delivery, no_share}
+use Rattle.store.specs.Node.{no_delivery}
 use Rattle.message.specs.Messages.{passes_now, agreed_by}
 use Rattle.own.specs.declared.Owner.{Owner}
 use Rattle.own.specs.Own.{Rising, fields_of}
 use Rattle.own.specs.SoundLayout.{SoundLayout}
 use Rattle.node.specs.Calls.{assembled}
-use Rattle.instance.specs.Instance.{instances}
-use Rattle.shares.specs.Shares.{averaged, fresh_look}
-use Rattle.closing.specs.Closing.{is_received, close_of, close_by_shares}
+use Rattle.closing.specs.Closing.{instances, is_received}
 use Rattle.node.specs.Load.{load_of}
 use Rattle.node.specs.Sound.{Sound}
-use Rattle.calls.specs.Relations.{Call, send, invalidate, assemble, read_flag, deliver, close, receive}
+use Rattle.calls.specs.Relations.{Call, send, invalidate, assemble, read_flag, close, receive}
 use Rattle.calls.specs.Relations.{value, Seen, answer_of, lent_before, sees, seen_of, next, final, Memory, Does, Loads}
-use Rattle.order.specs.Order.{carries, dependent, Numbered, Result, Reordered, end, results, Ran, SameOutcome}
+use Rattle.order.specs.Order.{Numbered, Result, Reordered, end, results, Ran, SameOutcome}
 use Rattle.order.specs.Runs.{EachBringsBytes}
 use Rattle.order.specs.Example.{sent_file, MayChange, MayNotChange, received_file, SameShown}
 use Rattle.order.specs.Once.{Once}
@@ -45,11 +43,6 @@ pub record Claims : Type 0 where
   -- and a message that it carries, gives each call the same answer and the same buffer or place, and the same memory
   pub order_of_calls : (b : List ℕ) → Memory b → (l₁ l₂ : List Numbered) → Reordered (node_of b).layout l₁ l₂
       → (r₁ r₂ : List Result) (e₁ e₂ : List ℕ) → Ran b l₁ r₁ e₁ → Ran b l₂ r₂ e₂ → SameOutcome r₁ r₂ e₁ e₂
-  -- where, in a loaded node, a frame carries a message exactly if a field of the message lies in it
-  pub carries_if : (l : Layout) → SoundLayout l → (f m : ℕ)
-      → (carries l f m ≡ true) ↔ ((d : ℕ) × (d < l.field_number) × ((laid_at l d).message ≡ m) × ((laid_at l d).frame ≡ f))
-  -- Two frames are linked if they are the same one: so deliveries of different frames, to one averaged message too, may change places
-  pub frames_apart : (l : Layout) (f g : ℕ) → (f ≡ g → ⊥) → (v w : Bool) (b c : List ℕ) → dependent l (deliver f v b) (deliver g w c) ≡ false
   -- Runs. On every memory every list of calls that brings bytes has a run, which shows what the calls on the memory's node show, and every load of a
   -- file of bytes has an outcome
   pub has_run : (b : List ℕ) → Memory b → (l : List Numbered) → EachBringsBytes l → (e : List ℕ) × Ran b l (results (node_of b) l) e
@@ -132,8 +125,6 @@ pub record Claims : Type 0 where
       → seen_of (next n close) (receive m p) ≡ seen_of (next n' close) (receive m p)
   pub own_values : (n n' : Node) → Sound n → Sound n' → (m : ℕ) → SameOwn n n' m
       → SameValues (state_at (next n close).state m) (state_at (next n' close).state m)
-  -- and of its share of the round, before the closing
-  pub own_share : (n n' : Node) → Sound n → Sound n' → (m : ℕ) → SameOwn n n' m → share_at n.state m ≡ share_at n'.state m
   -- Replicas agree. A received message may have another number in another layout, in frames of other numbers and beside other messages. Where it has
   -- the same width, sign, agreement, filter and words, and fields that lie alike, its frames in the same order, two nodes with the same earlier values,
   -- to which the same of these frames came with the same own bits, show the same status and value after closing
@@ -142,10 +133,7 @@ pub record Claims : Type 0 where
   -- and have the same values for the next closing
   pub replicas_values : (n n' : Node) → Sound n → Sound n' → (m m' : ℕ) → Replicas n.layout n'.layout m m' → CameAlike n n' m m'
       → SameValues (state_at (next n close).state m) (state_at (next n' close).state m')
-  -- and the same share before it
-  pub replicas_share : (n n' : Node) → Sound n → Sound n' → (m m' : ℕ) → Replicas n.layout n'.layout m m' → CameAlike n n' m m'
-      → share_at n.state m ≡ share_at n'.state m'
-  -- The values are found as they are: no call but a closing changes the held value and the status of a received message
+  -- which finds them as they are: no call but a closing changes the state of a received message
   pub received_kept : (n : Node) (m : ℕ) → is_received n.layout m ≡ true → (l : List Call) → OneRound l
       → state_at (final n l).state m ≡ state_at n.state m
   -- The order of a message's fields is that of their frames, and no two are in one frame
@@ -156,21 +144,6 @@ pub record Claims : Type 0 where
   -- delivered to each in earlier rounds; and a closing leaves nothing of the deliveries
   pub each_round : (n n' : Node) → Sound n → Sound n' → SameLayout n.layout n'.layout → SameRound n n' → n ≡ n'
   pub forgotten : (n : Node) → Sound n → (f : ℕ) → f < n.layout.frame_number → delivery_at (next n close).state f ≡ no_delivery
-  -- Sums. For each averaged message the node holds the sum and the number of its counting instances, right after every call: they are what a fresh look over
-  -- the round's deliveries finds
-  pub share_fresh : (n : Node) → Sound n → (l : List Call) (m : ℕ) → is_sent (message_at n.layout m) ≡ false
-      → (message_at n.layout m).agreement ≡ 1 → is_float (message_at n.layout m) ≡ false → share_at (final n l).state m ≡ fresh_look (final n l) m
-  -- the kept word is the exact sum
-  pub share_exact : (n : Node) → Sound n → (l : List Call) (m : ℕ) → averaged n.layout m ≡ true
-      → value_of true 64 (share_at (final n l).state m).sum ≡ sum_of (instances (final n l) m)
-  -- for any other message it holds none
-  pub share_none : (n : Node) → Sound n → (l : List Call) (m : ℕ) → averaged n.layout m ≡ false → share_at (final n l).state m ≡ no_share
-  -- A delivery with invalid controller status changes none of them, nor anything else
-  pub invalid_delivery : (n : Node) (f : ℕ) (bytes : List ℕ) → next n (deliver f false bytes) ≡ n
-  -- and a closing sets them to zero
-  pub share_cleared : (n : Node) → Sound n → (m : ℕ) → share_at (next n close).state m ≡ no_share
-  -- Closing uses them and answers as before: it comes to what a closing by the instances comes to
-  pub closing_means : (n : Node) → Sound n → close_by_shares n ≡ close_of n
   -- Equal bytes. So two memories that hold sound nodes with the same layout, messages, stages and deliveries of this round are the same, byte for byte
   pub equal_bytes : (a b : List ℕ) → Memory a → Memory b → Sound (node_of a) → Sound (node_of b) → SameLayout (node_of a).layout (node_of b).layout
       → SameRound (node_of a) (node_of b) → a ≡ b
@@ -195,9 +168,6 @@ pub record Claims : Type 0 where
       → seen_of (final (next (final n l) close) k) (receive m p) ≡ seen_of (final (next (final n' l') close) k') (receive m p)
   pub own_round_values : (n n' : Node) → Sound n → Sound n' → (m : ℕ) → is_received n.layout m ≡ true → (l l' : List Call) → SameOwnRound n n' l l' m
       → SameValues (state_at (next (final n l) close).state m) (state_at (next (final n' l') close).state m)
-  -- and before the closing both have the same share
-  pub own_round_share : (n n' : Node) → Sound n → Sound n' → (m : ℕ) → is_received n.layout m ≡ true → (l l' : List Call) → SameOwnRound n n' l l' m
-      → share_at (final n l).state m ≡ share_at (final n' l').state m
   -- For example, on the node that a file of a received frame leaves, two rounds whose last valid deliveries have a message's bits alike show the same of it
   pub round_example : (n : Node) → ((load_of n received_file).answer ≡ 0) × SameShown (load_of n received_file).node
   -- The flag's history. After the latest send of a message that answered 0, filtered or not, its flag is set exactly if each frame that carries it

@@ -6,7 +6,7 @@ use Rattle.packing.specs.Values.{pattern_of}
 use Rattle.float.specs.Patterns.{aside}
 use Rattle.store.specs.Node.{Node, is_float, message_at, laid_at}
 use Rattle.own.specs.Own.{is_in, Rising}
-use Rattle.instance.specs.Instance.{counts, value_in}
+use Rattle.closing.specs.Closing.{counts, value_in}
 
 -- field d of the layout is an instance of message m, and counts
 pub record CountingField (n : Node) (m d : ℕ) : Type 0 where

@@ -1,7 +1,7 @@
 -- One input, one outcome: a row for each public entry point of every crate, with what its contract says of an outcome. Those that C links cite the
 -- relations `Does` and `Loads` themselves; of the others the row says what the source does.
 -- Assumes nothing.
-use Rattle.std.specs.Prelude.{◌≡◌, Bool, true, List, ◌++◌, ℕ, ◌≤◌, min, T, ltb, ℤ, length, take, drop, replicate}
+use Rattle.std.specs.Prelude.{◌≡◌, Bool, List, ◌++◌, ℕ, ◌≤◌, min, T, ltb, ℤ, length, take, drop, replicate}
 use Rattle.std.specs.Float.{binary32}
 use Rattle.std.specs.Float.Ieee.{fits}
 use Rattle.whole.specs.Whole.{word}
@@ -11,7 +11,7 @@ use Rattle.float.specs.Patterns.{aside, rank_of}
 use Rattle.float.specs.Running.{none, more, finish, running_of}
 use Rattle.float.specs.declared.FloatSum.{FloatSum}
 use Rattle.float.specs.declared.FloatMean.{FloatMean}
-use Rattle.agreement.specs.Agreement.{quotient_of, agreed}
+use Rattle.agreement.specs.Agreement.{agreed}
 use Rattle.agreement.specs.Floats.{floats_agreed}
 use Rattle.agreement.specs.declared.Agreed.{Agreed}
 use Rattle.filter.specs.Filter.{passes}
@@ -38,7 +38,6 @@ use Rattle.store.specs.declared.Stage.{Stage}
 use Rattle.store.specs.declared.Frame.{Frame}
 use Rattle.store.specs.declared.Message.{Message}
 use Rattle.store.specs.declared.MessageState.{MessageState}
-use Rattle.store.specs.declared.Share.{Share}
 use Rattle.store.specs.declared.Field.{Field}
 use Rattle.store.specs.Node.{
   layout_of,
@@ -54,34 +53,28 @@ use Rattle.store.specs.Node.{
   listed_at,
   delivery_at,
   state_at,
-  share_at,
   field_at,
   data_at,
   no_message,
   no_delivery,
   no_state,
-  no_share,
-  is_averaged,
   marked,
   filled,
   with_deliveries,
   with_delivery,
   with_state,
-  with_share,
   with_stage,
   node_with,
 }
 use Rattle.store.specs.Writing.{empty_node, with_numbers, with_frame, with_message, with_laid, with_listed}
 use Rattle.start.specs.Start.{start_of}
 use Rattle.message.specs.declared.Change.{Change}
-use Rattle.message.specs.Messages.{can_hold, offered, invalidated, settled, settled_by}
+use Rattle.message.specs.Messages.{can_hold, offered, invalidated, settled}
 use Rattle.message.specs.Fields.{stage_after, is_gone, writes}
 use Rattle.own.specs.declared.Owner.{Owner}
 use Rattle.own.specs.declared.Places.{Places}
 use Rattle.own.specs.Own.{places_of, cell_at, Given, owns}
-use Rattle.instance.specs.Instance.{came, status_set, value_in}
-use Rattle.shares.specs.Shares.{after_giving, without}
-use Rattle.closing.specs.Closing.{close_by_shares}
+use Rattle.closing.specs.Closing.{close_of}
 use Rattle.calls.specs.Relations.{Call, Seen, Memory, Does, Loads}
 
 -- what a contract says of an outcome holds of one at most
@@ -108,8 +101,6 @@ pub record Once : Type 0 where
   pub in_range_lem : (value : ℤ) (width : ℕ) (signed : Bool) → Single (λ (r : Bool). r ≡ in_range signed width value)
   pub value_of_lem : (pattern width : ℕ) (signed : Bool) → Single (λ (r : ℤ). r ≡ value_of signed width pattern)
   pub pattern_of_lem : (value : ℤ) → Single (λ (r : ℕ). r ≡ pattern_of 32 value)
-  pub long_pattern_of : (value : ℤ) → Single (λ (r : ℕ). r ≡ pattern_of 64 value)
-  pub value_of_long : (pattern : ℕ) → Single (λ (r : ℤ). r ≡ value_of true 64 pattern)
   pub word_of : (a b c d : ℕ) → Single (λ (r : ℕ). r ≡ word a b c d)
   pub is_extended : (pattern width : ℕ) (signed : Bool) → Single (λ (r : Bool). r ≡ extended signed width pattern)
   -- float; a value of type f32 has a pattern of its own
@@ -121,7 +112,6 @@ pub record Once : Type 0 where
   -- agreement, filter
   pub agree : (agreement : ℕ) (instances : List ℤ) → Single (λ (r : Agreed). r ≡ agreed agreement instances)
   pub agree_floats : (agreement : ℕ) (instances : List ℤ) → Single (λ (r : Agreed). r ≡ floats_agreed agreement instances)
-  pub quotient : (sum : ℤ) (count : ℕ) → Single (λ (r : ℤ). r ≡ quotient_of sum count)
   pub pass : (filter sign x1 x2 : ℕ) (new old : ℤ) → Single (λ (r : Bool). r ≡ passes filter sign x1 x2 new old)
   -- record
   pub byte_at_lem : (file : List ℕ) (i k : ℕ) → Single (λ (r : ℕ). r ≡ byte_at file i k)
@@ -146,8 +136,6 @@ pub record Once : Type 0 where
   -- store
   pub no_message_lem : Single (λ (r : Message). r ≡ no_message)
   pub no_state_lem : Single (λ (r : MessageState). r ≡ no_state)
-  pub no_share : Single (λ (r : Share). r ≡ no_share)
-  pub is_averaged : (g : Message) → Single (λ (r : Bool). r ≡ is_averaged g)
   pub smaller : (a b : ℕ) → Single (λ (r : ℕ). r ≡ min a b)
   pub counts_of : (b : List ℕ) → Single (λ (r : Counts). r ≡ counts_of (layout_of b))
   pub has_frame : (b : List ℕ) (f : ℕ) → Single (λ (r : Bool). r ≡ ltb f (frame_count (layout_of b)))
@@ -161,7 +149,6 @@ pub record Once : Type 0 where
   pub data_at_lem : (b : List ℕ) (f : ℕ) → Single (λ (r : List ℕ). r ≡ data_at (node_of b) f)
   pub room_at : (b : List ℕ) (f : ℕ) → Single (λ (r : List ℕ). r ≡ room_of b f)
   pub state_at_lem : (b : List ℕ) (m : ℕ) → Single (λ (r : MessageState). r ≡ state_at (state_of b) m)
-  pub share_at : (b : List ℕ) (m : ℕ) → Single (λ (r : Share). r ≡ share_at (state_of b) m)
   pub field_at_lem : (b : List ℕ) (d : ℕ) → Single (λ (r : Field). r ≡ field_at (node_of b) d)
   pub put_mark : (b : List ℕ) (f k : ℕ)
       → Single (λ (e : List ℕ). Memory e × (node_of e ≡ node_with (node_of b) (with_delivery (state_of b) f (marked k (delivery_at (state_of b) f)))))
@@ -173,7 +160,6 @@ pub record Once : Type 0 where
   pub put_state : (b : List ℕ) (m : ℕ) (s : MessageState)
       → Single (λ (e : List ℕ). Memory e × (node_of e ≡ node_with (node_of b) (with_state (state_of b) m s)))
   pub put_stage : (b : List ℕ) (d : ℕ) (t : Stage) → Single (λ (e : List ℕ). Memory e × (node_of e ≡ node_with (node_of b) (with_stage (state_of b) d t)))
-  pub put_share : (b : List ℕ) (m : ℕ) (p : Share) → Single (λ (e : List ℕ). Memory e × (node_of e ≡ node_with (node_of b) (with_share (state_of b) m p)))
   pub clear : Single (λ (e : List ℕ). Memory e × (node_of e ≡ empty_node))
   pub put_counts : (b : List ℕ) (frames messages fields : ℕ)
       → Single (λ (e : List ℕ). Memory e × (node_of e ≡ record { layout = with_numbers (layout_of b) frames messages fields; state = state_of b }))
@@ -193,7 +179,6 @@ pub record Once : Type 0 where
   pub invalidated_state : (s : MessageState) → Single (λ (r : MessageState). r ≡ invalidated s)
   pub settled_state : (g : Message) (s : MessageState) (none : Bool) (instances : List ℤ)
       → Single (λ (r : MessageState). r ≡ settled g s none instances)
-  pub settled_by : (g : Message) (s : MessageState) (p : Share) → Single (λ (r : MessageState). r ≡ settled_by g s p)
   pub stage_after_lem : (change : Change) (x : Field) → Single (λ (r : Stage). r ≡ stage_after change x.stage)
   pub is_gone_lem : (x : Field) → Single (λ (r : Bool). r ≡ is_gone x.stage)
   pub write_field : (buffer : List ℕ) (h : Frame) (g : Message) (s : MessageState) (x : FieldRecord)
@@ -202,15 +187,8 @@ pub record Once : Type 0 where
   pub places_of_lem : (b : List ℕ) (o : Owner) → Single (λ (r : Places). (r ≡ places_of (layout_of b) o) × (r.end ≤ 128))
   pub cell_at_lem : (b : List ℕ) (o : Owner) (i : ℕ) → Single (λ (r : ℕ). (r ≡ cell_at (layout_of b) o i) × Given o r)
   pub own : (b : List ℕ) (o : Owner) (d : ℕ) → Single (λ (r : Bool). r ≡ owns (layout_of b) o d)
-  -- instance
-  pub did_come : (b : List ℕ) (x : FieldRecord) → Single (λ (r : Bool). r ≡ came (state_of b) x)
-  pub is_status_set : (b : List ℕ) (x : FieldRecord) → Single (λ (r : Bool). r ≡ status_set (node_of b) x)
-  pub value_in : (b : List ℕ) (g : Message) (x : FieldRecord) → Single (λ (r : ℤ). r ≡ value_in (node_of b) g x)
-  -- shares
-  pub give : (b : List ℕ) (f : ℕ) (out : Bool) → Single (λ (e : List ℕ). Memory e × (node_of e ≡ node_with (node_of b) (after_giving out (node_of b) f)))
-  pub take_out : (b : List ℕ) (f : ℕ) → Single (λ (e : List ℕ). Memory e × (node_of e ≡ node_with (node_of b) (without (node_of b) f)))
   -- closing
-  pub close_round : (b : List ℕ) → Single (λ (e : List ℕ). Memory e × (node_of e ≡ node_with (node_of b) (close_by_shares (node_of b))))
+  pub close_round : (b : List ℕ) → Single (λ (e : List ℕ). Memory e × (node_of e ≡ node_with (node_of b) (close_of (node_of b))))
   -- mondgurt, and node with the same outcomes: the eight calls, and loading
   pub call : (b : List ℕ) (c : Call) → Single (λ (o : Ended). Memory o.memory × Does b c o.seen o.memory)
   pub load : (b file : List ℕ) → Single (λ (o : Returned). Memory o.memory × Loads b file o.answer o.memory)

@@ -4,7 +4,7 @@ use Rattle.std.specs.Prelude.{◌≡◌, Bool, true, false, ◌||◌, List, [], 
 use Rattle.record.specs.declared.Field.{Field as FieldRecord}
 use Rattle.store.specs.Node.{Layout, Node}
 use Rattle.own.specs.declared.Owner.{Owner}
-use Rattle.own.specs.Own.{names, fields_of}
+use Rattle.own.specs.Own.{fields_of}
 use Rattle.calls.specs.Relations.{Call, send, invalidate, assemble, consumed, read_flag, deliver, close, receive}
 use Rattle.calls.specs.Relations.{Seen, seen_of, next, final, Memory, Does}
 
@@ -27,14 +27,14 @@ name_of (deliver f valid d) = frame f
 name_of close = all
 name_of (receive m p) = message m
 
--- one of the fields names the message, or the frame
-unfoldable pub some_names : Owner → List FieldRecord → Bool
-some_names o [] = false
-some_names o (x ∷ l) = names o x || some_names o l
+-- one of the fields is of message m
+unfoldable pub some_of : ℕ → List FieldRecord → Bool
+some_of m [] = false
+some_of m (x ∷ l) = eqb x.message m || some_of m l
 
--- frame f carries message m: one of m's fields lies in f, or one of f's is of m. In a loaded node the first alone says it
+-- frame f carries message m: a field of m lies in f
 abbrev pub carries : Layout → ℕ → ℕ → Bool
-carries l f m = some_names (Owner.Frame f) (fields_of l (Owner.Message m)) || some_names (Owner.Message m) (fields_of l (Owner.Frame f))
+carries l f m = some_of m (fields_of l (Owner.Frame f))
 
 -- the same message, the same frame, or a frame and a message that it carries; and a closing with every call
 abbrev pub linked : Layout → Name → Name → Bool

@@ -10,7 +10,7 @@ use Rattle.store.specs.Node.{Layout, Node, is_sent, has_status_bit, is_sent_fram
 use Rattle.store.specs.Node.{frame_at, message_at, laid_at, listed_at, delivery_at, state_at, stage_at, data_at}
 use Rattle.own.specs.declared.Owner.{Owner}
 use Rattle.own.specs.Own.{is_in, cells_of}
-use Rattle.instance.specs.Instance.{came}
+use Rattle.closing.specs.Closing.{came}
 use Rattle.own.specs.SoundLayout.{message_places, its_status_places}
 
 -- ---- own bits alone

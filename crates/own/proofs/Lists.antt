@@ -1,9 +1,9 @@
 -- The laws of `changed`, `chosen`, `is_in` and `table`, by induction on the list. Of `changed`: each element is as the test of its number says. Of
 -- `chosen`: what holds of each element that passes the test holds of all that are chosen, and a number is chosen exactly if it was there and passes.
--- What holds of each number that is in a list holds of all its elements, and a test of all is one of each. Rising lists with the same numbers are the same.
+-- What holds of each number that is in a list holds of all its elements, and a test of all is one of each.
 -- Assumes nothing.
-use mathlib.Core.Path.{◌≡◌, refl, ap, ap₂, sym, ◌∙◌}
-use mathlib.Core.Bool.{Bool, true, false, cond, ◌&&◌, ◌||◌, and-false, or-true, and-eq-true_iff, true≢false}
+use mathlib.Core.Path.{◌≡◌, refl, ap, sym, ◌∙◌}
+use mathlib.Core.Bool.{Bool, true, false, cond, ◌&&◌, ◌||◌, and-false, and-eq-true_iff, true≢false}
 use mathlib.Core.List.{List, [], ◌∷◌, map}
 use mathlib.Core.Logic.{◌↔◌}
 use Prim.Native.Nat.{ℕ, zero, suc, ◌+◌, ◌<◌, ◌≤◌}
@@ -48,28 +48,6 @@ module _ {A : Type 0} (p : ℕ → Bool) (g : ℕ → A → A) where
   pub changed_at : (l : List A) (j : ℕ) (d : A) → j < length l
       → get_or (changed p g 0 l) j d ≡ cond (p j) (g j (get_or l j d)) (get_or l j d)
   changed_at l j d h = let number : 0 + j ≡ j = omega arith in rw number at (changed_from 0 l j d h)
-
-  -- two changes of the same elements are one
-  pub changed_twice : (h : ℕ → A → A) (i : ℕ) (l : List A) → changed p g i (changed p h i l) ≡ changed p (λ j x. g j (h j x)) i l
-  unfolding changed
-  changed_twice h i [] = refl
-  changed_twice h i (x ∷ l) = rw (changed_twice h (suc i) l) (go (p i))
-    where
-      go : (b : Bool) → cond b (g i (cond b (h i x) x)) (cond b (h i x) x) ∷ changed p (λ j y. g j (h j y)) (suc i) l
-          ≡ cond b (g i (h i x)) x ∷ changed p (λ j y. g j (h j y)) (suc i) l
-      go true = refl
-      go false = refl
-
-  -- changes that come to the same, and one that is none
-  pub changed_so : (h : ℕ → A → A) → ((i : ℕ) (x : A) → g i x ≡ h i x) → (i : ℕ) (l : List A) → changed p g i l ≡ changed p h i l
-  unfolding changed
-  changed_so h same i [] = refl
-  changed_so h same i (x ∷ l) = rw (same i x, changed_so h same (suc i) l) refl
-
-pub unchanged : {A : Type 0} (p : ℕ → Bool) (i : ℕ) (l : List A) → changed p (λ j x. x) i l ≡ l
-unfolding changed
-unchanged p i [] = refl
-unchanged {A} p i (x ∷ l) = rw (unchanged p (suc i) l) (by_test (λ (y : A). y ∷ l ≡ x ∷ l) (p i) (λ t. refl) (λ t. refl))
 
 -- ---- what holds of each element
 
@@ -189,69 +167,3 @@ chosen_rise p f i (suc k) rise =
     after t e (there, u) =
         let (b, from, to, same) = (in_table f e (suc i) k).0 there in
         rw same at (rise i b (omega arith) (omega arith) (omega arith) t (rw same u))
-
--- ---- lists of numbers that rise, and choices
-
-here_in : (d : ℕ) (l : List ℕ) → is_in d (d ∷ l) ≡ true
-unfolding is_in
-here_in d l = rw (eq-eqb d d refl) refl
-
-later_in : (d e : ℕ) (l : List ℕ) → is_in d l ≡ true → is_in d (e ∷ l) ≡ true
-unfolding is_in
-later_in d e l t = rw (t, or-true) refl
-
-nothing_in : {P : Type 0} (d : ℕ) → is_in d [] ≡ true → P
-unfolding is_in
-nothing_in d t = absurd (true≢false (sym t))
-
--- two that have the same numbers are the same
-pub rising_same : (a b : List ℕ) → Rising a → Rising b → ((d : ℕ) → (is_in d a ≡ true) ↔ (is_in d b ≡ true)) → a ≡ b
-rising_same [] [] r q same = refl
-rising_same [] (e ∷ b) r q same = nothing_in e ((same e).1 (here_in e b))
-rising_same (d ∷ a) [] r q same = nothing_in d ((same d).0 (here_in d a))
-rising_same (d ∷ a) (e ∷ b) r q same =
-    ap₂ (λ (k : ℕ) (l : List ℕ). k ∷ l) first
-    (rising_same a b r.1 q.1 (λ k. (
-      λ t. in_cases k e b ((same k).0 (later_in k d a t)) (λ h. let over = r.0 k t in absurd (omega (arith, first))) (λ h. h),
-      λ t. in_cases k d a ((same k).1 (later_in k e b t)) (λ h. let over = q.0 k t in absurd (omega (arith, first))) (λ h. h),
-    )))
-  where
-    first : d ≡ e
-    first =
-        in_cases d e b ((same d).0 (here_in d a)) (λ h. h)
-        (λ t. in_cases e d a ((same e).1 (here_in e b)) sym (λ u. let one = q.0 d t in let other = r.0 e u in absurd (omega arith)))
-
-pub chosen_rising : (p : ℕ → Bool) (l : List ℕ) → Rising l → Rising (chosen p l)
-unfolding chosen
-chosen_rising p [] r = tt
-chosen_rising p (d ∷ l) r =
-    let later = chosen_rising p l r.1 in
-    by_test Rising (p d) (λ t. (λ e u. r.0 e ((in_chosen p e l).0 u).0, later)) (λ t. later)
-
-pub chosen_map : {A B : Type 0} (f : A → B) (p : B → Bool) (l : List A) → chosen p (map f l) ≡ map f (chosen (λ x. p (f x)) l)
-unfolding chosen
-chosen_map f p [] = refl
-chosen_map {A} {B} f p (x ∷ l) = go (p (f x)) (chosen_map f p l)
-  where
-    go : (b : Bool) → chosen p (map f l) ≡ map f (chosen (λ y. p (f y)) l)
-        → cond b (f x ∷ chosen p (map f l)) (chosen p (map f l)) ≡ map f (cond b (x ∷ chosen (λ y. p (f y)) l) (chosen (λ y. p (f y)) l))
-    go true later = ap (λ (r : List B). f x ∷ r) later
-    go false later = later
-
--- a choice of a choice
-pub chosen_both : {A : Type 0} (p q : A → Bool) (l : List A) → chosen q (chosen p l) ≡ chosen (λ x. p x && q x) l
-unfolding chosen
-chosen_both p q [] = refl
-chosen_both {A} p q (x ∷ l) = go (p x) (q x) refl (chosen_both p q l)
-  where
-    go : (a b : Bool) → q x ≡ b → chosen q (chosen p l) ≡ chosen (λ x. p x && q x) l
-        → chosen q (cond a (x ∷ chosen p l) (chosen p l)) ≡ cond (a && q x) (x ∷ chosen (λ x. p x && q x) l) (chosen (λ x. p x && q x) l)
-    go true true e later = rw (e, later) refl
-    go true false e later = rw (e, later) refl
-    go false b e later = later
-
--- none passes
-pub none_chosen : {A : Type 0} (p : A → Bool) (l : List A) → Every (λ x. p x ≡ false) l → chosen p l ≡ []
-unfolding chosen
-none_chosen p [] h = refl
-none_chosen p (x ∷ l) h = rw h.0 (none_chosen p l h.1)

@@ -1,9 +1,9 @@
 -- The layout part of the node of an accepted file is sound. The cells hold what the file's records say, so what is demanded of the records holds of the
 -- cells; the fields are sorted by message, so those of a message are a stretch from the first on, and those of a frame have messages that rise, so there
--- are no more of them than messages. The index has those of sent and of averaged messages in one run, in the order of the file.
+-- are no more of them than messages. The index has a frame's fields in one run, in the order of the file.
 -- Assumes nothing.
 use mathlib.Core.Path.{◌≡◌, refl, sym, ap, ◌∙◌}
-use mathlib.Core.Bool.{Bool, true}
+use mathlib.Core.Bool.{Bool}
 use mathlib.Core.List.{List}
 use mathlib.Core.Logic.{inl, inr, ⊎_elim}
 use Prim.Native.Nat.{ℕ, zero, suc, ◌+◌, ◌-◌, ◌<◌, ◌≤◌}
@@ -25,10 +25,9 @@ use Rattle.layout.proofs.Node as laid
 use Rattle.store.specs.declared.Frame.{Frame}
 use Rattle.store.specs.declared.Message.{Message}
 use Rattle.store.specs.Node.{Layout, no_frame, no_message, not_laid, frame_at, message_at, laid_at, listed_at}
-use Rattle.start.specs.Start as start
 use Rattle.start.specs.Start.{
-  stands_in,
-  stands_before,
+  lies_in,
+  lies_before,
   laid_frame,
   start_frame,
   is_instance,
@@ -42,10 +41,9 @@ use Rattle.start.specs.Start.{
   start_layout,
 }
 use Rattle.start.proofs.Tables.{length_table, table_at}
-use Rattle.start.proofs.Index.{stands_if, stands_means, run_ends, start_index_length, none_listed, has_place, run_lies, run_rises}
+use Rattle.start.proofs.Index.{run_ends, start_index_length, none_listed, has_place, run_lies, run_rises}
 use Rattle.message.specs.Fields.{status_places}
 use Rattle.own.specs.SoundLayout.{
-  is_called_on,
   SoundFrame,
   SoundMessage,
   message_places,
@@ -74,12 +72,12 @@ module _ (s : List ℕ) (F M D : ℕ) where
   abbrev is_big : ℕ → Bool
   is_big d = eqb (its_frame s F M (field d)).order 1
 
-  -- where the run of frame f begins in the index, and how many of the first d fields stand in it
+  -- where the fields of frame f begin in the index, and how many of the first d fields it has
   abbrev place : ℕ → ℕ
-  place f = tally (stands_before s F (F + M) f) D
+  place f = tally (lies_before s (F + M) f) D
 
   abbrev carried : ℕ → ℕ → ℕ
-  carried f d = tally (stands_in s F (F + M) f) d
+  carried f d = tally (lies_in s (F + M) f) d
 
   -- what the node holds of frame f and of message m
   abbrev frame_cell : ℕ → Frame
@@ -142,15 +140,11 @@ module _ (s : List ℕ) (F M D : ℕ) where
       small : f < 32
       small = omega (arith, few_frames s F M D w)
 
-      -- a field in its run lies in it, and is of a sent or an averaged message
-      lies_in : (d : ℕ) → stands_in s F (F + M) f d ≡ true → ((field d).frame ≡ f) × (start.says_called_on (its_message s F M (field d)) ≡ true)
-      lies_in d = stands_means s F (F + M) D f d small
-
-      -- which has no message twice
+      -- it carries no message twice
       carries_few : carried f D ≤ 32
       carries_few =
-          tally_keys (stands_in s F (F + M) f) (λ d. (field d).message) 32 D (λ d b here. omega (arith, (w.fields d b).message, few_messages s F M D w))
-          (λ d e h b one other. later_message (field d) (field e) ((lies_in d one).0 ∙ sym (lies_in e other).0) (w.rising d e h b))
+          tally_keys (lies_in s (F + M) f) (λ d. (field d).message) 32 D (λ d b here. omega (arith, (w.fields d b).message, few_messages s F M D w))
+          (λ d e h b one other. later_message (field d) (field e) (eqb-true _ _ one ∙ sym (eqb-true _ _ other)) (w.rising d e h b))
 
       sound_frame : SoundFrame layout (frame_cell f)
       unfolding start_layout
@@ -163,20 +157,18 @@ module _ (s : List ℕ) (F M D : ℕ) where
             direction = r.direction;
             trigger = r.trigger;
             few_fields = carries_few;
-            in_count = run_ends s F (F + M) D f;
+            in_count = run_ends s (F + M) D f;
           }
 
       run_carries : (i : ℕ) → (frame_at layout f).first ≤ i → i < (frame_at layout f).first + (frame_at layout f).fields
           → (listed_at layout i < D) × ((laid_at layout (listed_at layout i)).frame ≡ f)
-          × (is_called_on (message_at layout (laid_at layout (listed_at layout i)).message) ≡ true)
-      unfolding start_layout start_message
+      unfolding start_layout
       run_carries =
           rw (frame_at_lem f l)
           (λ i low high.
           let there : place f + (i - place f) ≡ i = omega arith in
-          let (below, here) = rw there at (run_lies s F (F + M) D w.fields_few f (i - place f) small (omega arith)) in
-          let (frame, called) = lies_in _ here in
-          (below, rw (laid_at_lem _ below) frame, rw (laid_at_lem _ below, message_at_lem _ (w.fields _ below).message) called))
+          let (below, here) = rw there at (run_lies s (F + M) D w.fields_few f (i - place f) small (omega arith)) in
+          (below, rw (laid_at_lem _ below) (eqb-true _ _ here)))
 
       run_rising : (i j : ℕ) → (frame_at layout f).first ≤ i → i < j → j < (frame_at layout f).first + (frame_at layout f).fields
           → listed_at layout i < listed_at layout j
@@ -186,7 +178,7 @@ module _ (s : List ℕ) (F M D : ℕ) where
           (λ i j low h high.
           let here : place f + (i - place f) ≡ i = omega arith in
           let there : place f + (j - place f) ≡ j = omega arith in
-          rw (here, there) at (run_rises s F (F + M) D w.fields_few f (i - place f) (j - place f) small (omega arith) (omega arith)))
+          rw (here, there) at (run_rises s (F + M) D w.fields_few f (i - place f) (j - place f) small (omega arith) (omega arith)))
 
     -- ---- a message
 
@@ -254,11 +246,11 @@ module _ (s : List ℕ) (F M D : ℕ) where
       in_run_lem : (first (field d).message ≤ d) × (d < first (field d).message + count (field d).message)
       in_run_lem = (run (field d).message (w.fields d l).message).only d l (eq-eqb (field d).message (field d).message refl)
 
-      in_index : is_called_on (message_cell (field d).message) ≡ true → Listed layout (frame_cell (field d).frame) d
-      unfolding start_layout start_message
-      in_index called =
+      in_index : Listed layout (frame_cell (field d).frame) d
+      unfolding start_layout
+      in_index =
           let f = (field d).frame in
-          let here = has_place s F (F + M) D w.fields_few f d (small f (w.fields d l).frame) l (stands_if s F (F + M) D d called) in
+          let here = has_place s (F + M) D w.fields_few f d (small f (w.fields d l).frame) l (eq-eqb f f refl) in
           record { place = place f + carried f d; from = omega arith; to = here.0; number = here.1 }
 
       status_alike : (field d).status ≡ (field (first (field d).message)).status
@@ -297,7 +289,7 @@ module _ (s : List ℕ) (F M D : ℕ) where
             status = rw its_message_lem status_alike;
             run_from = rw its_message_lem in_run_lem.0;
             run_to = rw its_message_lem in_run_lem.1;
-            listed = rw (its_message_lem, its_frame_lem) in_index;
+            listed = rw its_frame_lem in_index;
             lies = rw (its_message_lem, its_frame_lem) (simp meanings (g.width_to, omega (arith, r.inside last (inl (omega arith)))));
             status_lies = λ present. rw its_frame_lem (simp meanings (omega (arith, r.inside (field d).place (inr (present, refl)))));
             once = rw (message_places_lem, status_places_lem) (own_disjoint s F M D w d l);
@@ -323,7 +315,7 @@ module _ (s : List ℕ) (F M D : ℕ) where
           frame_cells = length_table _ 0 32;
           message_cells = length_table _ 0 32;
           field_cells = length_table _ 0 128;
-          index_cells = start_index_length s F (F + M) D w.fields_few;
+          index_cells = start_index_length s (F + M) D w.fields_few;
           few_frames = few_frames s F M D w;
           few_messages = few_messages s F M D w;
           few_fields = w.fields_few;
@@ -333,7 +325,7 @@ module _ (s : List ℕ) (F M D : ℕ) where
           no_messages = no_message_lem;
           fields = λ d l. rw (laid_at_lem d l) (sound_field d l);
           no_fields = no_field_lem;
-          none_listed = none_listed s F (F + M) D w.fields_few;
+          none_listed = none_listed s (F + M) D w.fields_few;
           run = λ m d l. run_names m l d;
           rising = λ d e h l. rw (laid_at_lem d (omega arith), laid_at_lem e l) (frames_rise s F M D w d e h l);
           frame_run = λ f i l. run_carries f l i;

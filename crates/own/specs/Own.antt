@@ -1,4 +1,4 @@
--- Which cells calls on a message and on a frame go through, on any memory: the layout alone says it.
+-- Which cells are the fields of a message and of a frame, on any memory: the layout alone says it.
 -- Assumes nothing.
 use Rattle.std.specs.Prelude.{◌≡◌, Bool, true, false, cond, ◌&&◌, ◌||◌, List, [], ◌∷◌, map, ℕ, suc, ◌+◌, ◌-◌, ◌<◌, min, eqb, ltb}
 use Rattle.record.specs.declared.Field.{Field as FieldRecord}

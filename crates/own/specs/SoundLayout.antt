@@ -1,7 +1,7 @@
 -- What holds of the layout part of every node that a load makes; no other call changes it. No call asks for it: it is what makes "own fields" mean what
 -- the paper says.
 -- Assumes nothing.
-use Rattle.std.specs.Prelude.{◌≡◌, Bool, true, false, ◌&&◌, ◌||◌, List, ℕ, ◌+◌, ◌<◌, ◌≤◌, length}
+use Rattle.std.specs.Prelude.{◌≡◌, true, false, List, ℕ, ◌+◌, ◌<◌, ◌≤◌, length}
 use Rattle.packing.specs.Places.{in_frame, places_in, Disjoint}
 use Rattle.packing.specs.Values.{is_width, extended}
 use Rattle.float.specs.Patterns.{aside}
@@ -9,21 +9,10 @@ use Rattle.ranges.specs.Ranges.{uses_x1, uses_x2, is_mask}
 use Rattle.record.specs.declared.Field.{Field as FieldRecord}
 use Rattle.store.specs.declared.Frame.{Frame}
 use Rattle.store.specs.declared.Message.{Message}
-use Rattle.store.specs.Node.{Layout, is_signed, is_float, is_sent, is_averaged, is_big, no_frame, no_message, not_laid, frame_at, message_at, laid_at, listed_at}
+use Rattle.store.specs.Node.{Layout, is_signed, is_float, is_sent, is_big, no_frame, no_message, not_laid, frame_at, message_at, laid_at, listed_at}
 use Rattle.message.specs.Fields.{status_places}
-use Rattle.own.specs.declared.Owner.{Owner}
-use Rattle.own.specs.Own.{names}
 
--- calls on a frame go through the fields of sent messages, and of averaged ones
-abbrev pub is_called_on : Message → Bool
-is_called_on g = is_sent g || is_averaged g
-
--- calls on a message go through each field that names it, calls on a frame through each that names it and is of such a message
-abbrev pub called_on : Layout → Owner → FieldRecord → Bool
-called_on l (Owner.Message m) x = names (Owner.Message m) x
-called_on l (Owner.Frame f) x = names (Owner.Frame f) x && is_called_on (message_at l x.message)
-
--- a frame is as its record says, and has the fields that calls on it go through in one run of the index
+-- a frame is as its record says, and has its fields in one run of the index
 pub record SoundFrame (l : Layout) (h : Frame) : Type 0 where
   pub length_from : 1 ≤ h.length
   pub length_to : h.length ≤ 32
@@ -70,8 +59,7 @@ pub record Listed (l : Layout) (h : Frame) (d : ℕ) : Type 0 where
   pub to : place < h.first + h.fields
   pub number : listed_at l place ≡ d
 
--- field d belongs to a message and a frame of one direction, stands in the message's run and, if its message is sent or averaged, in the frame's, lies
--- in its frame, and uses no bit twice
+-- field d belongs to a message and a frame of one direction, stands in their runs, lies in its frame, and uses no bit twice
 pub record SoundField (l : Layout) (d : ℕ) (x : FieldRecord) : Type 0 where
   pub message : x.message < l.message_number
   pub frame : x.frame < l.frame_number
@@ -79,7 +67,7 @@ pub record SoundField (l : Layout) (d : ℕ) (x : FieldRecord) : Type 0 where
   pub status : x.status ≡ (message_at l x.message).statusbit
   pub run_from : (message_at l x.message).first ≤ d
   pub run_to : d < (message_at l x.message).first + (message_at l x.message).fields
-  pub listed : is_called_on (message_at l x.message) ≡ true → Listed l (frame_at l x.frame) d
+  pub listed : Listed l (frame_at l x.frame) d
   pub lies : in_frame (frame_at l x.frame).length x.start (message_at l x.message).width ≡ true
   pub status_lies : x.status ≡ 1 → in_frame (frame_at l x.frame).length x.place 1 ≡ true
   pub once : Disjoint (message_places l x) (its_status_places l x)
@@ -110,10 +98,9 @@ pub record SoundLayout (l : Layout) : Type 0 where
   -- every cell of a message's run names it, and its frames rise
   pub run : (m d : ℕ) → m < l.message_number → (message_at l m).first ≤ d → d < (message_at l m).first + (message_at l m).fields → (laid_at l d).message ≡ m
   pub rising : (d e : ℕ) → d < e → e < l.field_number → (laid_at l d).message ≡ (laid_at l e).message → (laid_at l d).frame < (laid_at l e).frame
-  -- every field in a frame's run names it and is of a sent or an averaged message, and their numbers rise, so that each stands there once
+  -- every field in a frame's run names it, and their numbers rise, so that each stands there once
   pub frame_run : (f i : ℕ) → f < l.frame_number → (frame_at l f).first ≤ i → i < (frame_at l f).first + (frame_at l f).fields
       → (listed_at l i < l.field_number) × ((laid_at l (listed_at l i)).frame ≡ f)
-      × (is_called_on (message_at l (laid_at l (listed_at l i)).message) ≡ true)
   pub frame_rising : (f i j : ℕ) → f < l.frame_number → (frame_at l f).first ≤ i → i < j → j < (frame_at l f).first + (frame_at l f).fields
       → listed_at l i < listed_at l j
   -- two fields of one frame share no bit

@@ -1,4 +1,4 @@
-// Whose fields are whose: where the fields are found that calls on a message or a frame go through, and which cells there are theirs, on memory of any content.
+// Whose fields are whose: where a message's and a frame's fields are found, and which cells there are theirs, on memory of any content.
 ghost use Rattle.std.specs.Prelude.{◌≡◌, ◌<◌, ◌≤◌, length};
 ghost use Rattle.store.specs.Node.{node_size, layout_of};
 ghost use Rattle.own.specs.Own.{InMemory, places_of, cell_at, Given, owns};

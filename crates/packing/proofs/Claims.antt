@@ -5,7 +5,6 @@ use Rattle.packing.proofs.Places.{little_place, big_place, places_in_inside, pla
 use Rattle.packing.proofs.Frame.{round_trip, packed_bit, packed_other, packed_length, packed_bytes, packed_exchange, unpacked_other, agree}
 use Rattle.packing.proofs.Frame.{packed_lowest, packed_append, unpacked_append}
 use Rattle.packing.proofs.Field.{there_and_back}
-use Rattle.packing.proofs.Sums.{pattern_sum}
 use Rattle.packing.proofs.Values.{value_pattern, pattern_value, value_range, extended_pattern}
 
 pub claims : Claims
@@ -30,6 +29,5 @@ claims =
       value_pattern = value_pattern;
       pattern_value = pattern_value;
       value_range = value_range;
-      pattern_sum = pattern_sum;
       extended_pattern = extended_pattern;
     }

@@ -4,6 +4,5 @@ pub mod Field
 pub mod Frame
 pub mod Negation
 pub mod Places
-pub mod Sums
 pub mod Values
 pub mod Windows

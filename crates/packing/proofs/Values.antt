@@ -6,14 +6,14 @@ use mathlib.Core.Path.{◌≡◌, refl, sym, ap, ◌∙◌}
 use mathlib.Core.Bool.{Bool, true, false, false≢true, ◌&&◌, and-true, and-eq-true_iff}
 use mathlib.Core.Logic.{◌↔◌}
 use Prim.Native.Nat.{ℕ, zero, suc, ◌+◌, ◌-◌, ◌*◌, ◌/◌, ◌%◌, ◌^◌, ◌<◌, ◌≤◌}
-use native.Mathlib.Nat.{add-mul, mod-eq_of_lt, mod-lt, not-suc-le-zero, pow-suc}
+use native.Mathlib.Nat.{add-mul, mod-eq_of_lt, mod-lt, pow-suc}
 use native.Mathlib.Decide.{dec_lt}
 use native.Mathlib.Omega.{arith}
 use lib.Dec.{leb, eqb, leb-zero}
 use lib.IntN.{ℤ, pos, negsuc, neg_ℤ, ◌-ℤ◌, nat_abs}
 use lib.Pow.{low, mod-mod-pow, mod-pow-add, ones_split, ones_sub-lt, pow_mono, pow_pos}
-use lib.Signed.{lt_z, le_z, mag}
-use borrow.Author.Tests.{eqb-true, eq-eqb, leb-true, le-leb, ltb-true, le-ltb, lt-ltb}
+use lib.Signed.{le_z, mag}
+use borrow.Author.Tests.{eqb-true, eq-eqb, leb-true, le-leb, le-ltb, lt-ltb}
 use Rattle.packing.specs.Values.{is_width, least, greatest, in_range, value_of, pattern_of, extend, extended}
 
 -- ---- the values of a width
@@ -66,7 +66,7 @@ pub value_low : (w v : ℕ) → v * 2 < 2 ^ w → value_of true w v ≡ pos v
 unfolding value_of
 value_low w v h = rw (lt-ltb (v * 2) (2 ^ w) h)
 
-pub value_high : (w v : ℕ) → v < 2 ^ w → 2 ^ w ≤ v * 2 → value_of true w v ≡ negsuc (2 ^ w - suc v)
+value_high : (w v : ℕ) → v < 2 ^ w → 2 ^ w ≤ v * 2 → value_of true w v ≡ negsuc (2 ^ w - suc v)
 unfolding value_of
 value_high w v h l = rw (le-ltb (v * 2) (2 ^ w) l) (minus (2 ^ w) h)
   where
@@ -80,17 +80,6 @@ pub pattern_below : (w : ℕ) (z : ℤ) → pattern_of w z < 2 ^ w
 unfolding pattern_of
 pattern_below w (pos n) = mod-lt n (pow_pos w)
 pattern_below w (negsuc n) = ones_sub-lt w (n % 2 ^ w)
-
--- by the magnitude, and of a negative value by its complement
-pub pattern_negative : (w : ℕ) (z : ℤ) → lt_z z (pos 0) ≡ true → pattern_of w z ≡ 2 ^ w - 1 - mag z % 2 ^ w
-unfolding pattern_of
-pattern_negative w (pos n) t = absurd (not-suc-le-zero (ltb-true n 0 t))
-pattern_negative w (negsuc n) t = refl
-
-pub pattern_natural : (w : ℕ) (z : ℤ) → lt_z z (pos 0) ≡ false → pattern_of w z ≡ mag z % 2 ^ w
-unfolding pattern_of
-pattern_natural w (pos n) t = refl
-pattern_natural w (negsuc n) t = absurd (false≢true (sym t))
 
 -- the lowest bits of a longer pattern
 complement_lowest : (j w n : ℕ) → (2 ^ (j + w) - 1 - n % 2 ^ (j + w)) % 2 ^ w ≡ 2 ^ w - 1 - n % 2 ^ w
@@ -125,30 +114,22 @@ pattern_value true w v h = go (dec_lt (v * 2) (2 ^ w))
         let least : 2 ^ w - suc v < 2 ^ w = omega arith in
         rw (value_high w v h (omega arith), mod-eq_of_lt least) (omega arith)
 
--- a signed value, of any width that has room for it
-pub signed_pattern : (w : ℕ) (z : ℤ) → 1 ≤ w → mag z < 2 ^ (w - 1) → value_of true w (pattern_of w z) ≡ z
-unfolding pattern_of
-signed_pattern w z i h = go z (half_power w i) h
-  where
-    go : (z : ℤ) → 2 ^ w ≡ 2 ^ (w - 1) * 2 → mag z < 2 ^ (w - 1) → value_of true w (pattern_of w z) ≡ z
-    go (pos n) e h =
-        let small : n % 2 ^ w ≡ n = mod-eq_of_lt (omega arith) in
-        rw small (value_low w n (omega arith))
-    go (negsuc n) e h =
-        let small : n % 2 ^ w ≡ n = mod-eq_of_lt (omega arith) in
-        let again : 2 ^ w - suc (2 ^ w - 1 - n) ≡ n = omega arith in
-        rw small (value_high w (2 ^ w - 1 - n) (omega arith) (omega arith) ∙ ap negsuc again)
-
 pub value_pattern : (signed : Bool) (w : ℕ) (z : ℤ) → in_range signed w z ≡ true → value_of signed w (pattern_of w z) ≡ z
 unfolding pattern_of value_of
 value_pattern signed w z t =
     let held = (range_held signed w z).0 t in
-    go signed z (width_bounds w held.0).0 held.1
+    go signed z (half_power w (width_bounds w held.0).0) held.1
   where
-    go : (s : Bool) (z : ℤ) → 1 ≤ w → Held s w z → value_of s w (pattern_of w z) ≡ z
-    go false (pos n) i h = ap pos (mod-eq_of_lt h)
-    go false (negsuc n) i h = absurd h
-    go true z i h = signed_pattern w z i h
+    go : (s : Bool) (z : ℤ) → 2 ^ w ≡ 2 ^ (w - 1) * 2 → Held s w z → value_of s w (pattern_of w z) ≡ z
+    go false (pos n) e h = ap pos (mod-eq_of_lt h)
+    go false (negsuc n) e h = absurd h
+    go true (pos n) e h =
+        let small : n % 2 ^ w ≡ n = mod-eq_of_lt (omega arith) in
+        rw small (value_low w n (omega arith))
+    go true (negsuc n) e h =
+        let small : n % 2 ^ w ≡ n = mod-eq_of_lt (omega arith) in
+        let again : 2 ^ w - suc (2 ^ w - 1 - n) ≡ n = omega arith in
+        rw small (value_high w (2 ^ w - 1 - n) (omega arith) (omega arith) ∙ ap negsuc again)
 
 pub value_range : (signed : Bool) (w v : ℕ) → is_width w ≡ true → v < 2 ^ w → in_range signed w (value_of signed w v) ≡ true
 unfolding value_of

@@ -1,7 +1,7 @@
 -- What holds of where bits lie, of packing and unpacking at any places, and of values and their patterns. Each line is a theorem; proofs/Claims.antt says
 -- where it is proved.
 -- Assumes nothing.
-use Rattle.std.specs.Prelude.{◌≡◌, Bool, true, false, List, ◌++◌, ◌↔◌, ℕ, ◌+◌, ◌-◌, ◌*◌, ◌/◌, ◌%◌, ◌^◌, ◌<◌, ℤ, ◌+ℤ◌, length, get_or}
+use Rattle.std.specs.Prelude.{◌≡◌, Bool, true, false, List, ◌++◌, ◌↔◌, ℕ, ◌+◌, ◌-◌, ◌*◌, ◌/◌, ◌%◌, ◌^◌, ◌<◌, ℤ, length, get_or}
 use Rattle.whole.specs.Whole.{Bytes}
 use Rattle.packing.specs.Places.{bit_of, bit_at, place, places, in_frame, places_in, packed, unpacked}
 use Rattle.packing.specs.Places.{Inside, Outside, Distinct, Disjoint, Agree}
@@ -41,7 +41,5 @@ pub record Claims : Type 0 where
   pub value_pattern : (signed : Bool) (w : ℕ) (z : ℤ) → in_range signed w z ≡ true → value_of signed w (pattern_of w z) ≡ z
   pub pattern_value : (signed : Bool) (w v : ℕ) → v < 2 ^ w → pattern_of w (value_of signed w v) ≡ v
   pub value_range : (signed : Bool) (w v : ℕ) → is_width w ≡ true → v < 2 ^ w → in_range signed w (value_of signed w v) ≡ true
-  -- The pattern of a sum is the sum of the patterns, which wraps
-  pub pattern_sum : (w : ℕ) (a b : ℤ) → pattern_of w (a +ℤ b) ≡ (pattern_of w a + pattern_of w b) % 2 ^ w
   -- A word is zero- or sign-extended from w bits exactly if it is the 32-bit pattern of a value that a message of w bits holds
   pub extended_pattern : (signed : Bool) (w x : ℕ) → (extended signed w x ≡ true) ↔ ((z : ℤ) × (x ≡ pattern_of 32 z) × (in_range signed w z ≡ true))

@@ -1,5 +1,5 @@
 // Packing and unpacking of a message's bits, the status bit among them, and the values that their patterns stand for.
-ghost use Rattle.std.specs.Prelude.{◌≡◌, true, false, ◌+◌, ◌-◌, ◌*◌, ◌/◌, ◌%◌, ◌<◌, ◌≤◌, ◌^◌, length, take};
+ghost use Rattle.std.specs.Prelude.{◌≡◌, false, ◌+◌, ◌-◌, ◌*◌, ◌/◌, ◌%◌, ◌<◌, ◌≤◌, ◌^◌, length, take};
 ghost use Rattle.std.specs.Int.Bits.{bit_and};
 ghost use Rattle.std.specs.Int.Signed.{mag};
 ghost use Rattle.whole.specs.Whole.{word};
@@ -109,13 +109,11 @@ fn low_bit_in_byte(big: bool, start: usize, end: usize) -> usize
 
 // ---- packing
 
-// Compared in bits, whose number in a frame is computed once for all its fields; no field ends behind byte 64.
 fn in_frame(bytes: usize, start: u8, width: u8) -> bool
     ensures { result ≡ in_frame bytes start width }
 {
     let end = start as usize + width as usize;
-    let few = if bytes <= 64 { bytes } else { 64 };
-    (width <= 32) & (end <= few * 8)
+    (width <= 32) & ((end + 7) / 8 <= bytes)
 }
 
 fn pack_bits(frame: &mut [u8], big: bool, start: usize, width: usize, pattern: u32)
@@ -252,24 +250,6 @@ pub fn pattern_of(value: i64) -> u32
 {
     let m = (magnitude(value) % 4294967296) as u32;
     if value < 0 { 4294967295 - m } else { m }
-}
-
-// The 64-bit pattern of a value: its own bits, so that no instruction is left of it.
-pub fn long_pattern_of(value: i64) -> u64
-    ensures { result ≡ pattern_of 64 value }
-{
-    let m = magnitude(value);
-    if value < 0 { !m } else { m }
-}
-
-// And the value of a 64-bit pattern.
-pub fn value_of_long(pattern: u64) -> i64
-    ensures { result ≡ value_of true 64 pattern }
-{
-    if pattern <= 9223372036854775807 {
-        return pattern as i64;
-    }
-    !(!pattern as i64)
 }
 
 // The 32-bit pattern of four bytes, the lowest first.

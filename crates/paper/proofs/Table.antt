@@ -32,7 +32,6 @@ use Rattle.layout.specs.Paper.{record_of}
 use Rattle.start.specs.Start.{
   table,
   selected,
-  list_frame,
   laid_frame,
   frame_by_frame,
   start_message,
@@ -47,29 +46,27 @@ use Rattle.start.specs.Start.{
   start_layout,
   start_state,
 }
-use Rattle.message.specs.Messages.{can_hold, passes_now, offered, agreed_by, filtered, settled_by}
+use Rattle.message.specs.Messages.{can_hold, passes_now, offered, agreed_by, filtered}
 use Rattle.message.specs.Fields.{status_places}
 use Rattle.own.specs.Own.{chosen, changed, owns, cells_of}
-use Rattle.instance.specs.Instance.{came, status_set, counts, value_in, instances, none_came}
-use Rattle.shares.specs.Shares.{joined, opposite, put_in, share_in, frame_shares, given_by}
-use Rattle.closing.specs.Closing.{closed_state, closed_from_share, is_received, close_messages, forget, close_with}
-use Rattle.node.specs.Calls.{send_answer, send_of, deliver_answer, kept, exchanged, deliver_of, receive_answer, received_place}
+use Rattle.closing.specs.Closing.{came, status_set, counts, value_in, instances, none_came, closed_state, is_received, close_messages, forget, close_of}
+use Rattle.node.specs.Calls.{send_answer, send_of, deliver_answer, kept, deliver_of, receive_answer, received_place}
 use Rattle.node.specs.Load.{load_of}
-use Rattle.paper.specs.Rows.{file_of, averaged_file, sent_one, sent, received_one, received, shown, Rows}
+use Rattle.paper.specs.Rows.{file_of, sent_one, sent, received_one, received, shown, Rows}
 
 pub rows : Rows
 unfolding
     bit_of bit_at with_bit put_bit place_of frame_bit bit_places places in_frame places_in packed unpacked value_of pattern_of all_of
     sum_of mean_of message_value message_values average count_of ahead one_that vote agreed rules passes compared
-    can_hold passes_now offered agreed_by filtered settled_by file_of averaged_file sent_one sent received_one received shown
+    can_hold passes_now offered agreed_by filtered file_of sent_one sent received_one received shown
     load_of record_of extended is_width extend in_range least greatest tally any_below least_below
     byte_at word_at is_frame is_message is_field frame_at message_at field_at pair_below counts_before
     wrong_if word_fits word_finding frame_finding message_finding field_finding finding_of finding_at wrong_at lowest_fault range_fault
     size_fault order_fault ref_fault is_field_of unlike group_fault past_end meet clash_at place_fault fails no_field complete fails_at judged verdict
     start_layout start_state start_frames start_index start_messages start_states start_fields
-    table selected list_frame laid_frame frame_by_frame start_message_or_none start_message state_or_none start_laid
-    chosen changed cells_of owns send_of send_answer deliver_of exchanged deliver_answer kept joined opposite put_in share_in frame_shares given_by came status_places
-    is_received close_with forget close_messages closed_from_share closed_state instances none_came counts status_set value_in receive_answer received_place
+    table selected laid_frame frame_by_frame start_message_or_none start_message state_or_none start_laid
+    chosen changed cells_of owns send_of send_answer deliver_of deliver_answer kept came status_places
+    is_received close_of forget close_messages closed_state instances none_came counts status_set value_in receive_answer received_place
 rows =
     record {
       P1 = refl;
@@ -77,12 +74,7 @@ rows =
       P3 = refl;
       P4 = refl;
       P5 = refl;
-      P5-kept = λ n. refl;
-      P5-received = λ n. refl;
-      P5-invalid = λ n. refl;
-      P5-closed = λ n. refl;
       P6 = refl;
-      P6-kept = refl;
       P7 = refl;
       P8 = refl;
       P9 = refl;

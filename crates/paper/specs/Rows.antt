@@ -1,20 +1,18 @@
 -- The examples P1 to P10 of the paper as one table, over the definitions that the contracts cite. Each row reads as in the paper: what is done, and
--- what comes of it. P5 and P6 are of the closing by the instances, which in a sound node is that of the code (`closing_means`, order Claims). Rows of ours beside
--- them are on what the code closes by: the share that a loaded node keeps from delivery to delivery, and P10 for a message that is received.
+-- what comes of it. P10-received, a row of ours, is P10 for a message that is received.
 -- Assumes nothing.
-use Rattle.std.specs.Prelude.{◌≡◌, Bool, true, false, cond, List, [], ◌∷◌, ◌++◌, ℕ, ◌*◌, eqb, ℤ, pos, neg_ℤ, length}
+use Rattle.std.specs.Prelude.{◌≡◌, Bool, true, false, cond, List, [], ◌∷◌, ◌++◌, ℕ, eqb, ℤ, pos, neg_ℤ, length}
 use Rattle.packing.specs.Places.{places_in, packed}
-use Rattle.packing.specs.Values.{value_of, pattern_of}
+use Rattle.packing.specs.Values.{pattern_of}
 use Rattle.layout.specs.Paper.{record_of}
 use Rattle.store.specs.declared.Message.{Message}
 use Rattle.store.specs.declared.MessageState.{MessageState}
 use Rattle.store.specs.Node.{Node, is_valid, held_value, state_at}
-use Rattle.store.specs.Node.{share_at}
 use Rattle.start.specs.Start.{at_first}
-use Rattle.message.specs.Messages.{settled, settled_by}
+use Rattle.message.specs.Messages.{settled}
 use Rattle.node.specs.Load.{load_of}
 use Rattle.node.specs.Calls.{received_place}
-use Rattle.calls.specs.Relations.{Call, send, deliver, close, receive, answer_of, next, final}
+use Rattle.calls.specs.Relations.{send, deliver, close, receive, answer_of, next, final}
 
 -- ---- the rows' words
 
@@ -107,28 +105,6 @@ unfoldable pub received : Node → List ℕ → List Receives
 received n [] = []
 received n (v ∷ l) = received_one (round n v) ∷ received (round n v) l
 
--- a layout file: two frames of two bytes; message 0, received, 10 bits, signed, averaged; and a field of it in each frame, from bit 0 on, with the status bit
--- behind it
-unfoldable pub averaged_file : List ℕ
-averaged_file =
-    record_of (1 ∷ 0 ∷ 2 ∷ []) ++ record_of (1 ∷ 1 ∷ 2 ∷ []) ++ record_of (2 ∷ 0 ∷ 10 ∷ 1 ∷ 0 ∷ 1 ∷ [])
-    ++ record_of (3 ∷ 0 ∷ 0 ∷ 0 ∷ 1 ∷ 10 ∷ []) ++ record_of (3 ∷ 0 ∷ 1 ∷ 0 ∷ 1 ∷ 10 ∷ [])
-
--- the node that its load leaves, after some calls
-abbrev pub averaging_after : List Call → Node → Node
-averaging_after calls n = final (load_of n averaged_file).node calls
-
--- a frame brings a value, as valid or as invalid
-abbrev pub brings : ℕ → ℤ → Call
-brings f v = deliver f true (pack v 10 0 little (0 ∷ 4 ∷ []))
-
-abbrev pub brings_invalid : ℕ → ℤ → Call
-brings_invalid f v = deliver f true (pack v 10 0 little (0 ∷ 0 ∷ []))
-
--- what the node keeps of message 0: a sum, the number of its instances, and how many of its frames came
-abbrev pub keeps : Node → ℤ × ℕ × ℕ
-keeps n = (value_of true 64 (share_at n.state 0).sum, (share_at n.state 0).number, (share_at n.state 0).came)
-
 -- ---- the table
 
 pub record Rows : Type 0 where
@@ -142,13 +118,6 @@ pub record Rows : Type 0 where
   pub P4 : pack (minus 1) 10 0 little (0x00 ∷ 0x00 ∷ []) ≡ 0xff ∷ 0x03 ∷ []
   -- average of -3, -4: -3
   pub P5 : closed signed_averaging (minus 3 ∷ minus 4 ∷ []) ≡ value (minus 3)
-  -- -3 in one frame and, in place of 9, -4 in the other: the sum is -7, of two instances; the average is -3
-  pub P5-kept : (n : Node) → keeps (averaging_after (brings 0 (minus 3) ∷ brings 1 (pos 9) ∷ brings 1 (minus 4) ∷ []) n) ≡ (minus 7, 2, 2)
-  pub P5-received : (n : Node) → received_one (averaging_after (brings 0 (minus 3) ∷ brings 1 (pos 9) ∷ brings 1 (minus 4) ∷ close ∷ []) n) ≡ value (minus 3)
-  -- an invalid one in place of 9: the sum is -3, of one instance
-  pub P5-invalid : (n : Node) → keeps (averaging_after (brings 0 (minus 3) ∷ brings 1 (pos 9) ∷ brings_invalid 1 (minus 4) ∷ []) n) ≡ (minus 3, 1, 2)
-  -- and after a closing nothing is kept
-  pub P5-closed : (n : Node) → keeps (averaging_after (brings 0 (minus 3) ∷ brings 1 (pos 9) ∷ close ∷ []) n) ≡ (pos 0, 0, 0)
   -- average of eight times 4,294,967,295: 4,294,967,295
   pub P6 :
       closed averaging
@@ -162,8 +131,6 @@ pub record Rows : Type 0 where
       ∷ pos 4294967295
       ∷ [])
       ≡ value (pos 4294967295)
-  -- the same by a share
-  pub P6-kept : shown averaging (settled_by averaging (initially (pos 0)) (record { sum = 8 * 4294967295; number = 8; came = 8 })) ≡ value (pos 4294967295)
   -- vote 5, 5, 9, 7: 5
   pub P7 : closed voting (pos 5 ∷ pos 5 ∷ pos 9 ∷ pos 7 ∷ []) ≡ value (pos 5)
   -- vote 5, 5, 9, 9: 20

@@ -185,8 +185,8 @@ fn play_all(input: &[u8], from: usize, a: &mut [u8], b: &mut [u8])
 fn main() {
     let mut input = [0u8; 8192];
     let n = io::read_full(STDIN_FILENO, &mut input);
-    let mut a = [0u8; 3171];
-    let mut b = [0u8; 3171];
+    let mut a = [0u8; 2851];
+    let mut b = [0u8; 2851];
     let middle = 2 + 24 * (wide(input[0]) as usize % 100);
     let end = middle + 24 * (wide(input[1]) as usize % 100);
     play_load(&mut a, &input[2..middle]);

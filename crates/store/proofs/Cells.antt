@@ -33,9 +33,6 @@ use Rattle.store.specs.Node.{
   message_state_bytes,
   stage_in,
   stage_bytes,
-  share_of,
-  share_size,
-  share_bytes,
   marked,
   filled,
 }
@@ -43,7 +40,6 @@ use Rattle.store.specs.declared.Frame.{Frame}
 use Rattle.store.specs.declared.Message.{Message}
 use Rattle.store.specs.declared.MessageState.{MessageState}
 use Rattle.store.specs.declared.Stage.{Stage}
-use Rattle.store.specs.declared.Share.{Share}
 
 -- ---- sizes
 
@@ -76,10 +72,6 @@ state_size_lem s = refl
 pub stage_size : (t : Stage) → length (stage_bytes t) ≡ 1
 unfolding stage_bytes
 stage_size t = refl
-
-pub share_size : (p : Share) → length (share_bytes p) ≡ share_size
-unfolding share_bytes
-share_size p = refl
 
 -- ---- bytes
 
@@ -125,13 +117,6 @@ word_encoded c k l y =
 word_decoded : (x : ℕ) → x < 2 ^ 32 → word_in (word_then x []) 0 ≡ x
 word_decoded x h = omega arith
 
--- two words as one of eight bytes
-halves : (low high : ℕ) → low < 2 ^ 32 → ((low + 2 ^ 32 * high) % 2 ^ 32 ≡ low) × ((low + 2 ^ 32 * high) / 2 ^ 32 ≡ high)
-halves low high h = (omega arith, omega arith)
-
-double_below : (low high : ℕ) → low < 2 ^ 32 → high < 2 ^ 32 → low + 2 ^ 32 * high < 2 ^ 64
-double_below low high l h = omega arith
-
 -- ---- bytes, decoded and encoded again
 
 pub frame_encoded : (c : List ℕ) → length c ≡ 6 → Bytes c → frame_bytes (frame_of c) ≡ c
@@ -169,12 +154,6 @@ pub stage_encoded : (c : List ℕ) → length c ≡ 1 → Bytes c → stage_byte
 unfolding stage_bytes stage_in
 stage_encoded c h y = ap (λ (k : ℕ). k ∷ []) (code_stage (get_or c 0 0)) ∙ bytes_all c 1 h
 
-pub share_encoded : (c : List ℕ) → length c ≡ share_size → Bytes c → share_bytes (share_of c) ≡ c
-unfolding share_bytes share_of
-share_encoded c h y =
-    let sum = halves (word_in c 0) (word_in c 4) (word_below c 0 y) in
-    rw (sum.0, sum.1, word_encoded c 0 _ y, word_encoded c 4 _ y) (bytes_all c share_size h)
-
 -- ---- what fits a cell, encoded and decoded again
 
 pub frame_decoded : (h : Frame) → frame_of (frame_bytes h) ≡ h
@@ -205,12 +184,6 @@ pub stage_decoded : (t : Stage) → StoredStage t → stage_in (stage_bytes t) �
 unfolding stage_in stage_bytes
 stage_decoded t e = e
 
-pub share_decoded : (p : Share) → p.sum < 2 ^ 64 → share_of (share_bytes p) ≡ p
-unfolding share_of share_bytes
-share_decoded p sum =
-    let whole : p.sum % 2 ^ 32 + 2 ^ 32 * (p.sum / 2 ^ 32) ≡ p.sum = omega arith in
-    rw (word_decoded (p.sum % 2 ^ 32) (omega arith), word_decoded (p.sum / 2 ^ 32) (omega arith), whole) refl
-
 -- what bytes say fits a cell
 pub words_fit : (c : List ℕ) → Bytes c → ((message_of c).x1 < 2 ^ 32) × ((message_of c).x2 < 2 ^ 32)
 unfolding message_of
@@ -223,10 +196,6 @@ held_fits c y = word_below c 2 y
 pub stage_fits : (c : List ℕ) → StoredStage (stage_in c)
 unfolding stage_in
 stage_fits c = ap stage_of (code_stage (get_or c 0 0))
-
-pub sum_fits : (c : List ℕ) → Bytes c → (share_of c).sum < 2 ^ 64
-unfolding share_of
-sum_fits c y = double_below (word_in c 0) (word_in c 4) (word_below c 0 y) (word_below c 4 y)
 
 -- ---- a delivery's cell, in part
 

@@ -10,7 +10,6 @@ use Rattle.whole.specs.Whole.{Bytes}
 use Rattle.store.specs.Memory.{part}
 use Rattle.store.specs.declared.Message.{Message}
 use Rattle.store.specs.declared.MessageState.{MessageState}
-use Rattle.store.specs.declared.Share.{Share}
 use Rattle.store.specs.Node.{
   StoredStage,
   Shaped,
@@ -21,7 +20,6 @@ use Rattle.store.specs.Node.{
   delivery_of,
   message_state_of,
   stage_in,
-  share_of,
   frames_at,
   messages_at,
   fields_at,
@@ -30,8 +28,6 @@ use Rattle.store.specs.Node.{
   states_at,
   state_size,
   stages_at,
-  shares_at,
-  share_size,
   node_size,
   layout_of,
   state_of,
@@ -39,15 +35,13 @@ use Rattle.store.specs.Node.{
   no_message,
   no_state,
   no_stage,
-  no_share,
   message_at,
   state_at,
   stage_at,
-  share_at,
 }
 use Rattle.store.proofs.Parts.{length_part, bytes_part}
 use Rattle.store.proofs.Regions.{region, length_region, cell_read}
-use Rattle.store.proofs.Cells.{words_fit, held_fits, stage_fits, sum_fits}
+use Rattle.store.proofs.Cells.{words_fit, held_fits, stage_fits}
 use Rattle.store.proofs.Places.{delivery_read}
 
 -- what holds of each cell, and of what stands past the last, holds wherever the region is read
@@ -88,10 +82,6 @@ module _ (b : List ℕ) where
   unfolding state_of
   stages_length = length_region stage_in 1 128 stages_at b
 
-  pub shares_length : length (state_of b).shares ≡ 32
-  unfolding state_of
-  shares_length = length_region share_of share_size 32 shares_at b
-
   pub stage_stored : (d : ℕ) → StoredStage (stage_at (state_of b) d)
   unfolding state_of
   stage_stored d = anywhere StoredStage stage_in 1 128 stages_at b no_stage d refl (stage_fits (part b (stages_at + d * 1) 1))
@@ -108,12 +98,6 @@ module _ (b : List ℕ) where
     held_below m =
         anywhere (λ (s : MessageState). s.held < 2 ^ 32) message_state_of state_size 32 states_at b no_state m (omega arith)
         (held_fits (part b (states_at + m * state_size) state_size) (bytes_part b (states_at + m * state_size) state_size y))
-
-    sum_below : (m : ℕ) → (share_at (state_of b) m).sum < 2 ^ 64
-    unfolding state_of
-    sum_below m =
-        anywhere (λ (p : Share). p.sum < 2 ^ 64) share_of share_size 32 shares_at b no_share m (omega arith)
-        (sum_fits (part b (shares_at + m * share_size) share_size) (bytes_part b (shares_at + m * share_size) share_size y))
 
     pub node_shaped : length b ≡ node_size → Shaped (node_of b)
     unfolding delivery_of
@@ -133,6 +117,4 @@ module _ (b : List ℕ) where
           held = λ m h. held_below m;
           stages = stages_length;
           codes = λ d h. stage_stored d;
-          shares = shares_length;
-          sums = λ m h. sum_below m;
         }

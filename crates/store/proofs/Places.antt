@@ -1,4 +1,4 @@
--- Where the node's cells lie: the region law at its eight regions. A cell is read from its place in the memory, and a write there is the node with
+-- Where the node's cells lie: the region law at its seven regions. A cell is read from its place in the memory, and a write there is the node with
 -- that one element replaced: the other part of the node lies elsewhere, and so do the other regions of its own part.
 -- Assumes nothing.
 use mathlib.Core.Path.{◌≡◌, refl, ap, sym, ◌∙◌}
@@ -14,7 +14,6 @@ use Rattle.store.specs.declared.Frame.{Frame}
 use Rattle.store.specs.declared.Message.{Message}
 use Rattle.store.specs.declared.MessageState.{MessageState}
 use Rattle.store.specs.declared.Stage.{Stage}
-use Rattle.store.specs.declared.Share.{Share}
 use Rattle.store.specs.Memory.{part, overwritten}
 use Rattle.store.specs.Node.{
   Layout,
@@ -28,7 +27,6 @@ use Rattle.store.specs.Node.{
   delivery_of,
   message_state_of,
   stage_in,
-  share_of,
   frames_at,
   messages_at,
   fields_at,
@@ -38,8 +36,6 @@ use Rattle.store.specs.Node.{
   states_at,
   state_size,
   stages_at,
-  shares_at,
-  share_size,
   node_size,
   layout_of,
   state_of,
@@ -51,7 +47,6 @@ use Rattle.store.specs.Node.{
   no_delivery,
   no_state,
   no_stage,
-  no_share,
   frame_at,
   message_at,
   laid_at,
@@ -59,12 +54,10 @@ use Rattle.store.specs.Node.{
   delivery_at,
   state_at,
   stage_at,
-  share_at,
   data_at,
   with_delivery,
   with_state,
   with_stage,
-  with_share,
   node_with,
 }
 use Rattle.store.specs.Writing.{with_numbers, with_frames, with_messages, with_fields, with_index, with_frame, with_message, with_laid, with_listed}
@@ -94,9 +87,6 @@ states = region message_state_of state_size 32 states_at
 
 abbrev stages : List ℕ → List Stage
 stages = region stage_in 1 128 stages_at
-
-abbrev shares : List ℕ → List Share
-shares = region share_of share_size 32 shares_at
 
 -- ---- reading
 
@@ -132,10 +122,6 @@ module _ (b : List ℕ) where
   pub stage_read : (d : ℕ) → d < 128 → stage_at (state_of b) d ≡ stage_of (get_or b (stages_at + d) 0)
   unfolding state_of stage_in
   stage_read d h = cell_read stage_in 1 128 stages_at b d no_stage h ∙ ap stage_of (byte_cell b stages_at d)
-
-  pub share_read : (m : ℕ) → m < 32 → share_at (state_of b) m ≡ share_of (part b (shares_at + m * share_size) share_size)
-  unfolding state_of
-  share_read m h = cell_read share_of share_size 32 shares_at b m no_share h
 
   -- the first byte of a frame's cell is its length, and that of a delivery's says whether it came
   length_read : (f : ℕ) → f < 32 → (frame_at (layout_of b) f).length ≡ get_or b (frames_at + f * 6) 0
@@ -205,9 +191,6 @@ module _ {b : List ℕ} (w : Write b) where
   stages_stay : Apart stages_at (128 * 1) w.at w.size → stages new ≡ stages b
   stages_stay = stays stage_in 1 128 stages_at
 
-  shares_stay : Apart shares_at (32 * share_size) w.at w.size → shares new ≡ shares b
-  shares_stay = stays share_of share_size 32 shares_at
-
   -- the layout by its lists, where its numbers are not written
   layout_by_lists : frames_at ≤ w.at → {F : List Frame} {M : List Message} {D : List FieldRecord} {I : List ℕ} → frames new ≡ F → messages new ≡ M
       → fields new ≡ D → index new ≡ I → layout_of new ≡ with_frames (with_messages (with_fields (with_index (layout_of b) I) D) M) F
@@ -224,13 +207,7 @@ module _ {b : List ℕ} (w : Write b) where
 
   state_stays : w.at + w.size ≤ layout_size → state_of new ≡ state_of b
   unfolding state_of
-  state_stays h =
-      cc (
-        deliveries_stay (inr (omega arith)),
-        states_stay (inr (omega arith)),
-        stages_stay (inr (omega arith)),
-        shares_stay (inr (omega arith)),
-      )
+  state_stays h = cc (deliveries_stay (inr (omega arith)), states_stay (inr (omega arith)), stages_stay (inr (omega arith)))
 
   -- a write into one part leaves the other
   in_layout : w.at + w.size ≤ layout_size → {l : Layout} → layout_of new ≡ l → node_of new ≡ record { layout = l; state = state_of b }
@@ -301,12 +278,7 @@ module _ (b : List ℕ) (size : length b ≡ node_size) where
   delivery_written f c h e =
       let w : Write b = record { at = deliveries_at + f * 33; size = 33; bytes = c; inside = omega arith; sized = e } in
       in_state w (omega arith)
-      (cc (
-        cell_written delivery_of 33 32 deliveries_at b f c (omega arith) h e,
-        states_stay w (inr (omega arith)),
-        stages_stay w (inr (omega arith)),
-        shares_stay w (inr (omega arith)),
-      ))
+      (cc (cell_written delivery_of 33 32 deliveries_at b f c (omega arith) h e, states_stay w (inr (omega arith)), stages_stay w (inr (omega arith))))
 
   pub state_written : (m : ℕ) (c : List ℕ) → m < 32 → length c ≡ state_size
       → node_of (overwritten b (states_at + m * state_size) state_size c) ≡ node_with (node_of b) (with_state (state_of b) m (message_state_of c))
@@ -318,7 +290,6 @@ module _ (b : List ℕ) (size : length b ≡ node_size) where
         deliveries_stay w (inl (omega arith)),
         cell_written message_state_of state_size 32 states_at b m c (omega arith) h e,
         stages_stay w (inr (omega arith)),
-        shares_stay w (inr (omega arith)),
       ))
 
   pub stage_written : (d v : ℕ) → d < 128 → node_of (set b (stages_at + d) v) ≡ node_with (node_of b) (with_stage (state_of b) d (stage_of v))
@@ -331,18 +302,4 @@ module _ (b : List ℕ) (size : length b ≡ node_size) where
         deliveries_stay w (inl (omega arith)),
         states_stay w (inl (omega arith)),
         cell_written stage_in 1 128 stages_at b d (v ∷ []) (omega arith) h refl,
-        shares_stay w (inr (omega arith)),
-      ))
-
-  pub share_written : (m : ℕ) (c : List ℕ) → m < 32 → length c ≡ share_size
-      → node_of (overwritten b (shares_at + m * share_size) share_size c) ≡ node_with (node_of b) (with_share (state_of b) m (share_of c))
-  unfolding state_of
-  share_written m c h e =
-      let w : Write b = record { at = shares_at + m * share_size; size = share_size; bytes = c; inside = omega arith; sized = e } in
-      in_state w (omega arith)
-      (cc (
-        deliveries_stay w (inl (omega arith)),
-        states_stay w (inl (omega arith)),
-        stages_stay w (inl (omega arith)),
-        cell_written share_of share_size 32 shares_at b m c (omega arith) h e,
       ))

@@ -26,8 +26,6 @@ use Rattle.store.specs.Node.{
   message_state_bytes,
   stage_in,
   stage_bytes,
-  share_of,
-  share_bytes,
   frames_at,
   messages_at,
   fields_at,
@@ -37,8 +35,6 @@ use Rattle.store.specs.Node.{
   states_at,
   state_size,
   stages_at,
-  shares_at,
-  share_size,
   node_size,
   layout_of,
   state_of,
@@ -52,7 +48,6 @@ use Rattle.store.specs.Node.{
   no_delivery,
   no_state,
   no_stage,
-  no_share,
 }
 use Rattle.store.proofs.Regions.{region_bytes, region_cells}
 use Rattle.store.proofs.Cells.{
@@ -64,7 +59,6 @@ use Rattle.store.proofs.Cells.{
   delivery_size,
   state_size_lem,
   stage_size,
-  share_size,
   frame_encoded,
   message_encoded,
   laid_encoded,
@@ -72,7 +66,6 @@ use Rattle.store.proofs.Cells.{
   delivery_encoded,
   state_encoded,
   stage_encoded,
-  share_encoded,
   frame_decoded,
   message_decoded,
   laid_decoded,
@@ -80,7 +73,6 @@ use Rattle.store.proofs.Cells.{
   delivery_decoded,
   state_decoded,
   stage_decoded,
-  share_decoded,
 }
 
 -- ---- from the memory
@@ -108,13 +100,12 @@ module _ (b : List ℕ) (size : length b ≡ node_size) (y : Bytes b) where
   state_bytes_lem : state_bytes (state_of b) ≡ drop layout_size b
   unfolding state_bytes state_of
   state_bytes_lem =
-      let last : List ℕ = cells share_bytes (uncells share_of share_size 32 (drop shares_at b)) in
-      let shares : last ≡ drop shares_at b =
+      let last : List ℕ = cells stage_bytes (uncells stage_in 1 128 (drop stages_at b)) in
+      let stages : last ≡ drop stages_at b =
       sym (append-nil last) ∙ ap (λ (l : List ℕ). last ++ l) (sym (drop_of_length-le b {i = node_size} (omega arith)))
-      ∙ region_bytes share_bytes share_of share_size share_encoded 32 shares_at b (omega arith) y in
+      ∙ region_bytes stage_bytes stage_in 1 stage_encoded 128 stages_at b (omega arith) y in
       rw (
-        shares,
-        region_bytes stage_bytes stage_in 1 stage_encoded 128 stages_at b (omega arith) y,
+        stages,
         region_bytes message_state_bytes message_state_of state_size state_encoded 32 states_at b (omega arith) y,
       ) (region_bytes delivery_bytes delivery_of 33 delivery_encoded 32 deliveries_at b (omega arith) y)
 
@@ -138,8 +129,7 @@ node_bytes n shaped =
     let l = n.layout in
     let s = n.state in
     let b : List ℕ = bytes_of n in
-    let R8 : List ℕ = cells share_bytes s.shares in
-    let R7 : List ℕ = cells stage_bytes s.stages ++ R8 in
+    let R7 : List ℕ = cells stage_bytes s.stages in
     let R6 : List ℕ = cells message_state_bytes s.messages ++ R7 in
     let R5 : List ℕ = cells delivery_bytes s.deliveries ++ R6 in
     let R4 : List ℕ = cells listed_bytes l.index ++ R5 in
@@ -160,9 +150,6 @@ node_bytes n shaped =
     region_cells message_state_bytes state_size state_size_lem message_state_of 32 states_at b s.messages R7 no_state deliveries.1 shaped.states
     (λ m h. state_decoded _ (shaped.held m h)) in
     let stages =
-    region_cells stage_bytes 1 stage_size stage_in 128 stages_at b s.stages R8 no_stage states.1 shaped.stages
+    region_cells stage_bytes 1 stage_size stage_in 128 stages_at b s.stages [] no_stage (states.1 ∙ sym (append-nil R7)) shaped.stages
     (λ d h. stage_decoded _ (shaped.codes d h)) in
-    let shares =
-    region_cells share_bytes share_size share_size share_of 32 shares_at b s.shares [] no_share (stages.1 ∙ sym (append-nil R8)) shaped.shares
-    (λ m h. share_decoded _ (shaped.sums m h)) in
-    rw (frames.0, messages.0, fields.0, index.0, deliveries.0, states.0, stages.0, shares.0) refl
+    rw (frames.0, messages.0, fields.0, index.0, deliveries.0, states.0, stages.0) refl

@@ -2,7 +2,7 @@
 -- at the end it is all there is.
 -- Assumes nothing.
 use mathlib.Core.Path.{◌≡◌, refl, ap, ap₂, sym, ◌∙◌}
-use mathlib.Core.List.{List, [], ◌++◌, append_assoc}
+use mathlib.Core.List.{List, ◌++◌, append_assoc}
 use Prim.Native.Nat.{ℕ, ◌+◌, ◌≤◌}
 use native.Mathlib.Omega.{arith}
 use lib.ListN.{length, take, drop, length-append, length-drop}
@@ -15,21 +15,12 @@ pub record Begun (n : ℕ) (b p : List ℕ) : Type 0 where
   pub front : take (length p) b ≡ p
 
 -- by stores of single bytes
-pub written_bytes : {n : ℕ} {b p : List ℕ} (w : List ℕ) → Begun n b p → length p + length w ≤ n → Begun n (sets b (length p) w) (p ++ w)
-written_bytes {b} {p} w begun room =
-    let r : List ℕ = drop (length p + length w) b in
-    let e : sets b (length p) w ≡ p ++ w ++ r =
-    sets-eq w b (length p) (omega (arith, begun.size)) ∙ ap (λ (s : List ℕ). s ++ w ++ r) begun.front in
-    record {
-      size = length-sets b (length p) w ∙ begun.size;
-      front = ap (take (length (p ++ w))) e ∙ take_at (p ++ w) r (length (p ++ w)) refl;
-    }
-
-pub written_none : {n : ℕ} (b : List ℕ) → length b ≡ n → Begun n b []
-written_none b size = record { size = size; front = refl }
-
 pub written_first : {n : ℕ} (b p : List ℕ) → length b ≡ n → length p ≤ n → Begun n (sets b 0 p) p
-written_first b p size room = written_bytes p (written_none b size) (omega arith)
+written_first b p size room =
+    record {
+      size = length-sets b 0 p ∙ size;
+      front = ap (take (length p)) (sets-eq p b 0 (omega arith)) ∙ take_at p (drop (0 + length p) b) (length p) refl;
+    }
 
 -- by the next part, that was lent and comes back as w
 pub written_next : {n : ℕ} {b p c w : List ℕ} → Begun n b p → c ≡ w → length p + length w ≤ n → Begun n (put_mid (length p) (length w) b c) (p ++ w)

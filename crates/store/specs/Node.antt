@@ -2,7 +2,7 @@
 -- the caller lends in cells of fixed size, first the layout and then the state.
 -- Every content of the memory is a node, so that a call has an outcome whatever it finds there.
 -- Assumes nothing.
-use Rattle.std.specs.Prelude.{◌≡◌, Bool, not, ◌&&◌, List, [], ◌∷◌, ◌++◌, ℕ, zero, suc, ◌+◌, ◌*◌, ◌/◌, ◌%◌, ◌^◌, ◌<◌, min, eqb, ℤ, length, get_or, set, take, drop, replicate}
+use Rattle.std.specs.Prelude.{◌≡◌, Bool, not, List, [], ◌∷◌, ◌++◌, ℕ, zero, suc, ◌+◌, ◌*◌, ◌/◌, ◌%◌, ◌^◌, ◌<◌, min, eqb, ℤ, length, get_or, set, take, drop, replicate}
 use Rattle.std.proofs.Math.Seq.{paste}
 use Rattle.whole.specs.Whole.{word}
 use Rattle.packing.specs.Values.{value_of}
@@ -15,13 +15,11 @@ use Rattle.store.specs.declared.Frame.{Frame}
 use Rattle.store.specs.declared.Message.{Message}
 use Rattle.store.specs.declared.MessageState.{MessageState}
 use Rattle.store.specs.declared.Field.{Field}
-use Rattle.store.specs.declared.Share.{Share}
 
 -- ---- the node
 
--- what the layout says; cells past a count are no frames, messages or fields. A field is as its record says, and a message's fields are a run of the
--- fields. The index has the numbers of the fields that calls on frames go through, those of sent and of averaged messages, frame by frame: a frame's are a
--- run of it
+-- what the layout says; cells past a count are no frames, messages or fields. A field is as its record says, and the index has the fields' numbers
+-- frame by frame, so that a frame's fields are a run of the index as a message's are a run of the fields
 pub record Layout : Type 0 where
   pub frame_number : ℕ
   pub message_number : ℕ
@@ -36,12 +34,11 @@ pub record Delivery : Type 0 where
   pub delivered : ℕ
   pub bytes : List ℕ
 
--- what calls change: the deliveries of the frames, the states of the messages, the stages of the fields and the messages' shares
+-- what calls change: the deliveries of the frames, the states of the messages and the stages of the fields
 pub record State : Type 0 where
   pub deliveries : List Delivery
   pub messages : List MessageState
   pub stages : List Stage
-  pub shares : List Share
 
 -- a node is both
 pub record Node : Type 0 where
@@ -68,10 +65,6 @@ is_float g = eqb g.sign 2
 
 abbrev pub is_sent : Message → Bool
 is_sent g = eqb g.direction 1
-
--- received, and agreed on by the mean of whole numbers
-abbrev pub is_averaged : Message → Bool
-is_averaged g = not (is_sent g) && (eqb g.agreement 1 && not (is_float g))
 
 abbrev pub has_status_bit : Message → Bool
 has_status_bit g = not (eqb g.statusbit 0)
@@ -181,14 +174,7 @@ stage_in c = stage_of (get_or c 0 0)
 unfoldable pub stage_bytes : Stage → List ℕ
 stage_bytes t = code_of t ∷ []
 
--- a message's share: a word of eight bytes, its lower half first, and 2 bytes
-unfoldable pub share_of : List ℕ → Share
-share_of c = record { sum = word_in c 0 + 2 ^ 32 * word_in c 4; number = get_or c 8 0; came = get_or c 9 0 }
-
-unfoldable pub share_bytes : Share → List ℕ
-share_bytes p = word_then (p.sum % 2 ^ 32) (word_then (p.sum / 2 ^ 32) (p.number ∷ p.came ∷ []))
-
--- ---- the memory: 3 + 32 * 6 + 32 * 16 + 128 * 5 + 128 bytes of layout, then 32 * 33 + 32 * 6 + 128 + 32 * 10 of state
+-- ---- the memory: 3 + 32 * 6 + 32 * 16 + 128 * 5 + 128 bytes of layout, then 32 * 33 + 32 * 6 + 128 of state
 
 abbrev pub frames_at : ℕ
 frames_at = 3
@@ -217,14 +203,8 @@ state_size = 6
 abbrev pub stages_at : ℕ
 stages_at = states_at + 32 * state_size
 
-abbrev pub shares_at : ℕ
-shares_at = stages_at + 128
-
-abbrev pub share_size : ℕ
-share_size = 10
-
 abbrev pub node_size : ℕ
-node_size = shares_at + 32 * share_size
+node_size = stages_at + 128
 
 -- what the memory says: the layout, the state, and the node
 unfoldable pub layout_of : List ℕ → Layout
@@ -245,7 +225,6 @@ state_of b =
       deliveries = uncells delivery_of 33 32 (drop deliveries_at b);
       messages = uncells message_state_of state_size 32 (drop states_at b);
       stages = uncells stage_in 1 128 (drop stages_at b);
-      shares = uncells share_of share_size 32 (drop shares_at b);
     }
 
 abbrev pub node_of : List ℕ → Node
@@ -258,9 +237,7 @@ layout_bytes l =
     ∷ cells frame_bytes l.frames ++ (cells message_bytes l.messages ++ (cells laid_bytes l.fields ++ cells listed_bytes l.index))
 
 unfoldable pub state_bytes : State → List ℕ
-state_bytes s =
-    cells delivery_bytes s.deliveries
-    ++ (cells message_state_bytes s.messages ++ (cells stage_bytes s.stages ++ cells share_bytes s.shares))
+state_bytes s = cells delivery_bytes s.deliveries ++ (cells message_state_bytes s.messages ++ cells stage_bytes s.stages)
 
 abbrev pub bytes_of : Node → List ℕ
 bytes_of n = layout_bytes n.layout ++ state_bytes n.state
@@ -291,9 +268,6 @@ no_state = record { valid = 0; status = 0; held = 0 }
 abbrev pub no_stage : Stage
 no_stage = Gone 2
 
-abbrev pub no_share : Share
-no_share = record { sum = 0; number = 0; came = 0 }
-
 -- frame f, message m, field d as its record says
 abbrev pub frame_at : Layout → ℕ → Frame
 frame_at l f = get_or l.frames f no_frame
@@ -308,7 +282,7 @@ laid_at l d = get_or l.fields d not_laid
 abbrev pub listed_at : Layout → ℕ → ℕ
 listed_at l i = get_or l.index i 0
 
--- the delivery of frame f, the state of message m, the stage of field d, the share of message m
+-- the delivery of frame f, the state of message m, the stage of field d
 abbrev pub delivery_at : State → ℕ → Delivery
 delivery_at s f = get_or s.deliveries f no_delivery
 
@@ -317,9 +291,6 @@ state_at s m = get_or s.messages m no_state
 
 abbrev pub stage_at : State → ℕ → Stage
 stage_at s d = get_or s.stages d no_stage
-
-abbrev pub share_at : State → ℕ → Share
-share_at s m = get_or s.shares m no_share
 
 -- a field is what its record says, and its stage
 abbrev pub field_at : Node → ℕ → Field
@@ -358,16 +329,13 @@ filled y d = record { delivered = y.delivered; bytes = paste y.bytes 0 d (length
 
 -- the state with other lists, and with one cell replaced
 abbrev pub with_deliveries : State → List Delivery → State
-with_deliveries s l = record { deliveries = l; messages = s.messages; stages = s.stages; shares = s.shares }
+with_deliveries s l = record { deliveries = l; messages = s.messages; stages = s.stages }
 
 abbrev pub with_states : State → List MessageState → State
-with_states s l = record { deliveries = s.deliveries; messages = l; stages = s.stages; shares = s.shares }
+with_states s l = record { deliveries = s.deliveries; messages = l; stages = s.stages }
 
 abbrev pub with_stages : State → List Stage → State
-with_stages s l = record { deliveries = s.deliveries; messages = s.messages; stages = l; shares = s.shares }
-
-abbrev pub with_shares : State → List Share → State
-with_shares s l = record { deliveries = s.deliveries; messages = s.messages; stages = s.stages; shares = l }
+with_stages s l = record { deliveries = s.deliveries; messages = s.messages; stages = l }
 
 abbrev pub with_delivery : State → ℕ → Delivery → State
 with_delivery s f y = with_deliveries s (set s.deliveries f y)
@@ -377,9 +345,6 @@ with_state s m t = with_states s (set s.messages m t)
 
 abbrev pub with_stage : State → ℕ → Stage → State
 with_stage s d t = with_stages s (set s.stages d t)
-
-abbrev pub with_share : State → ℕ → Share → State
-with_share s m p = with_shares s (set s.shares m p)
 
 -- the node with another state: the layout is the same
 abbrev pub node_with : Node → State → Node
@@ -404,5 +369,3 @@ pub record Shaped (n : Node) : Type 0 where
   pub held : (m : ℕ) → m < 32 → (state_at n.state m).held < 2 ^ 32
   pub stages : length n.state.stages ≡ 128
   pub codes : (d : ℕ) → d < 128 → StoredStage (stage_at n.state d)
-  pub shares : length n.state.shares ≡ 32
-  pub sums : (m : ℕ) → m < 32 → (share_at n.state m).sum < 2 ^ 64

@@ -14,9 +14,6 @@ ghost use Rattle.store.specs.Node.{
   message_state_bytes,
   stage_of,
   code_of,
-  share_of,
-  share_bytes,
-  is_averaged,
   node_size,
   layout_of,
   state_of,
@@ -31,20 +28,17 @@ ghost use Rattle.store.specs.Node.{
   listed_at,
   delivery_at,
   state_at,
-  share_at,
   field_at,
   data_at,
   no_message,
   no_delivery,
   no_state,
-  no_share,
   marked,
   filled,
   with_deliveries,
   with_delivery,
   with_state,
   with_stage,
-  with_share,
   node_with,
   StoredStage,
 };
@@ -54,7 +48,7 @@ use layout::Counts;
 
 // ---- what the layout says
 
-// A frame: calls on it go through the fields whose numbers stand in the index from place first on, of that number.
+// A frame: its fields are those whose numbers stand in the index from place first on, of that number.
 #[derive(Drop)]
 pub struct Frame {
     pub length: u8,
@@ -97,15 +91,6 @@ pub enum Stage {
     Waiting,
     Loaded,
     Gone(u8),
-}
-
-// What fields give to an averaged message: the sum of the values that count, as a word of eight bytes that wraps, their number, and how many of the
-// fields' frames came.
-#[derive(Drop)]
-pub struct Share {
-    pub sum: u64,
-    pub number: u8,
-    pub came: u8,
 }
 
 // A field: its record, which the layout says, and its stage, which calls change.
@@ -264,37 +249,6 @@ fn code_of(s: Stage) -> u8
     }
 }
 
-// The sum by its two halves, from which the compiler makes one load.
-fn read_share(c: &[u8]) -> Share
-    requires { length c.now ≡ 10 }
-    ensures { result ≡ share_of c.now }
-{
-    Share {
-        sum: word(c, 0) as u64 + ((word(c, 4) as u64) << 32),
-        number: c[8],
-        came: c[9],
-    }
-}
-
-fn write_share(c: &mut [u8], p: Share)
-    requires { length c.old ≡ 10 }
-    ensures { c.new ≡ share_bytes p }
-{
-    write_word(&mut c[0..4], (p.sum % 4294967296) as u32);
-    write_word(&mut c[4..8], (p.sum >> 32) as u32);
-    c[8] = p.number;
-    c[9] = p.came;
-}
-
-// ---- what a message is
-
-// Whether it is received and agreed on by the mean of whole numbers.
-pub fn is_averaged(g: Message) -> bool
-    ensures { result ≡ is_averaged g }
-{
-    !(g.direction == 1) & ((g.agreement == 1) & !(g.sign == 2))
-}
-
 // ---- where there is no message
 
 pub fn no_message() -> Message
@@ -321,16 +275,6 @@ pub fn no_state() -> MessageState
         valid: 0,
         status: 0,
         held: 0,
-    }
-}
-
-pub fn no_share() -> Share
-    ensures { result ≡ no_share }
-{
-    Share {
-        sum: 0,
-        number: 0,
-        came: 0,
     }
 }
 
@@ -466,15 +410,6 @@ pub fn state_at(node: &[u8], m: usize) -> MessageState
     read_state(&node[at..end])
 }
 
-pub fn share_at(node: &[u8], m: usize) -> Share
-    requires { (m < 32) × (length node.now ≡ node_size) }
-    ensures { result ≡ share_at (state_of node.now) m }
-{
-    let at = 2851 + m * 10;
-    let end = at + 10;
-    read_share(&node[at..end])
-}
-
 // A field with its stage.
 pub fn field_at(node: &[u8], d: usize) -> Field
     requires { (d < 128) × (length node.now ≡ node_size) }
@@ -553,15 +488,6 @@ pub fn put_stage(node: &mut [u8], d: usize, s: Stage)
     node[2723 + d] = code_of(s);
 }
 
-pub fn put_share(node: &mut [u8], m: usize, p: Share)
-    requires { (m < 32) × (length node.old ≡ node_size) }
-    ensures { node_of node.new ≡ node_with (node_of node.old) (with_share (state_of node.old) m p) }
-{
-    let at = 2851 + m * 10;
-    let end = at + 10;
-    write_share(&mut node[at..end], p);
-}
-
 // ---- writing the layout
 
 // No frames, messages or fields, whatever the memory held.
@@ -569,7 +495,7 @@ pub fn clear(node: &mut [u8])
     requires { length node.old ≡ node_size }
     ensures { node_of node.new ≡ empty_node }
 {
-    fill(&mut node[0..3171], 0);
+    fill(&mut node[0..2723], 0);
     fill(&mut node[2723..2851], 2);
 }
 

@@ -8,7 +8,7 @@ use lib.IntN.{ℤ}
 use lib.ListN.{length}
 use lib.Seq.{length-take-le}
 use borrow.Author.Rules.{rules}
-use borrow.Author.Tests.{lt-leb, ne_eqb}
+use borrow.Author.Tests.{lt-leb}
 use Rattle.agreement.specs.declared.Agreed.TheVariants.{NoResult}
 use Rattle.agreement.specs.Agreement.{agreed}
 use Rattle.agreement.specs.Floats.{left_of, float_mean, left_agreed, floats_agreed}
@@ -54,7 +54,7 @@ slice-aggregate-agree : tie.Need-slice-aggregate-agree
 slice-aggregate-agree c = sym (length-take-le c.before.set-aside.result _ (omega (arith, c.before.set-aside.ensures)))
 
 agree-requires : tie.Need-agree-requires
-agree-requires c κs = ne_eqb _ 1 c.before.before.before.if2.false
+agree-requires c κs = search rules
 
 returns-3 : tie.Need-returns-3
 returns-3 c =

@@ -5,7 +5,7 @@ use native.Mathlib.Omega.{arith}
 use lib.Seq.{length-take-le}
 use Rattle.store.specs.declared.MessageState.{MessageState}
 use Rattle.store.specs.Node.{state_of, node_of, with_state, node_with}
-use Rattle.closing.proofs.Rounds.{not_averaged, closed_by}
+use Rattle.closing.proofs.Rounds.{closed_by}
 use borrow.Author.Rules.{rules}
 use Rattle.closing.proofs.close_message.Statement.{statement}
 use Rattle.closing.proofs.close_message.Tie as tie
@@ -31,10 +31,7 @@ slice-aggregate-settled-state c =
     sym (length-take-le got.result.number _ (omega (arith, got.ensures)))
 
 settled-state-requires : tie.Need-settled-state-requires
-settled-state-requires c κs =
-    let read = c.before.before.before in
-    let start = read.before.before.before.before.before.before in
-    not_averaged read.message_at.ensures start.requires.2 start.requires.1
+settled-state-requires c κs = search rules
 
 put-state-requires : tie.Need-put-state-requires
 put-state-requires c κs = search rules
@@ -44,18 +41,12 @@ same_length c = search rules
 
 returns : tie.Need-returns
 returns c =
-    let put = c.before.before in
-    let settled = put.before.before in
-    let state = settled.before.before in
-    let read = state.before.before in
-    let got = read.before.before in
-    let start = got.before.before.before.before in
-    let b = start.args.node.now in
-    let m = start.args.m in
-    put.put_state.ensures
+    let b = c.before.before.before.before.before.before.before.before.before.before.before.before.before.before.args.node.now in
+    let m = c.before.before.before.before.before.before.before.before.before.before.before.before.before.before.args.m in
+    let got = c.before.before.before.before.before.before.before.before.before.before.gather.ensures in
+    c.before.before.put_state.ensures
     ∙ ap (λ (t : MessageState). node_with (node_of b) (with_state (state_of b) m t))
-    (closed_by (node_of b) m _ read.message_at.ensures state.state_at.ensures got.gather.ensures.3 got.gather.ensures.2
-    settled.settled_state.ensures)
+    (closed_by (node_of b) m _ c.before.before.before.before.before.before.before.before.message_at.ensures c.before.before.before.before.before.before.state_at.ensures got.3 got.2 c.before.before.before.before.settled_state.ensures)
 
 pub close-message-spec : {M : Type 1} → statement M
 close-message-spec =

@@ -1,7 +1,7 @@
 -- `closing::close_messages` meets its contract. The invariant: the first m messages are closed. Message m is closed as the node was when the closing
--- began, by its share or by its fields, or is sent and stays.
+-- began.
 -- Assumes nothing.
-use mathlib.Core.Path.{◌≡◌, refl, ap, sym, ◌∙◌}
+use mathlib.Core.Path.{◌≡◌, refl, ap, ◌∙◌}
 use mathlib.Core.Logic.{⊎_elim}
 use Prim.Native.Nat.{◌-◌, ◌<◌}
 use native.Mathlib.Omega.{arith}
@@ -10,8 +10,8 @@ use borrow.Author.Tests.{not-true, not-false}
 use borrow.Author.Rules.{rules}
 use Rattle.layout.specs.declared.Counts.{Counts}
 use Rattle.store.specs.Node.{node_size, layout_of, state_of, node_of, message_count}
-use Rattle.store.proofs.Laws.{states_length, shares_length}
-use Rattle.closing.proofs.Rounds.{closed_to, average_turn, close_turn, close_skip, close_end}
+use Rattle.store.proofs.Laws.{states_length}
+use Rattle.closing.proofs.Rounds.{closed_to, close_turn, close_skip, close_end}
 use Rattle.closing.proofs.close_messages.Statement.{statement}
 use Rattle.closing.proofs.close_messages.Tie as tie
 
@@ -30,21 +30,8 @@ loop-holds c = (ap (λ (r : Counts). r.messages) c.counts_of.ensures, search rul
 message-at-requires : tie.Need-message-at-requires invariant-loop decreases-loop
 message-at-requires c κs = search rules
 
-is-averaged-requires : tie.Need-is-averaged-requires invariant-loop decreases-loop
-is-averaged-requires c κs = search rules
-
-close-averaged-requires : tie.Need-close-averaged-requires invariant-loop decreases-loop
-close-averaged-requires c κs = search rules
-
 close-message-requires : tie.Need-close-message-requires invariant-loop decreases-loop
-close-message-requires c κs =
-    let asked = c.before.before in
-    let read = asked.before.before.before in (
-      search rules,
-      rw (← read.message_at.ensures) (sym asked.is_averaged.ensures ∙ c.before.if2.false),
-      rw (← read.message_at.ensures) (not-true _ asked.before.if1.true),
-      search rules,
-    )
+close-message-requires c κs = search rules
 
 add-m : tie.Need-overflow-add-m invariant-loop decreases-loop
 add-m c = search rules
@@ -59,20 +46,15 @@ loop-again c =
     let b = loop.before.before.before.before.args.node.now in
     let m = loop.loop.m in
     let room : m < length (state_of b).messages = omega (arith, states_length b) in
-    let cell : m < length (state_of b).shares = omega (arith, shares_length b) in
     let inv = loop.loop.invariant in
-    let told = read.message_at.ensures in
     ⊎_elim
     (λ w.
-    let averaged = sym w.1.ensures ∙ w.2.taken in
-    rw w.7
-    (inv.0, search rules, average_turn (node_of b) m room cell inv.2 told (omega arith) (not-true _ w.0.taken) averaged w.4.ensures))
-    (⊎_elim
-    (λ w.
-    let other = sym w.1.ensures ∙ w.2.left in
-    rw w.7
-    (inv.0, search rules, close_turn (node_of b) m room cell inv.2 told (omega arith) (not-true _ w.0.taken) other w.4.ensures))
-    (λ w. rw w.1 (inv.0, inv.1, close_skip (node_of b) m room cell inv.2 told (omega arith) (not-false _ w.0.left))))
+    rw w.5 (
+      inv.0,
+      search rules,
+      close_turn (node_of b) m room inv.2 read.message_at.ensures (omega arith) (not-true _ w.0.taken) w.2.ensures,
+    ))
+    (λ w. rw w.1 (inv.0, inv.1, close_skip (node_of b) m room inv.2 read.message_at.ensures (omega arith) (not-false _ w.0.left)))
     c.if1.branch
 
 same_length : tie.Need-same-length invariant-loop decreases-loop
@@ -93,8 +75,6 @@ close-messages-spec =
     counts-of-requires
     loop-holds
     message-at-requires
-    is-averaged-requires
-    close-averaged-requires
     close-message-requires
     add-m
     loop-less

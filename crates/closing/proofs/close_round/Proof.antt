@@ -5,7 +5,7 @@ use native.Mathlib.Omega.{arith}
 use borrow.Author.Rules.{rules}
 use Rattle.layout.specs.declared.Counts.{Counts}
 use Rattle.store.specs.Node.{Node, node_with}
-use Rattle.closing.specs.Closing.{forget, close_with}
+use Rattle.closing.specs.Closing.{forget, close_of}
 use Rattle.closing.proofs.Rounds.{forgotten}
 use Rattle.closing.proofs.close_round.Statement.{statement}
 use Rattle.closing.proofs.close_round.Tie as tie
@@ -25,7 +25,7 @@ same_length : tie.Need-same-length
 same_length c = search rules
 
 returns : tie.Need-returns
-unfolding close_with
+unfolding close_of
 returns c =
     let counted = ap (λ (r : Counts). r.frames) c.before.before.before.before.counts_of.ensures in
     c.before.before.forget_deliveries.ensures

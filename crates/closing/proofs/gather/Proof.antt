@@ -16,10 +16,10 @@ use Rattle.store.specs.Node.{layout_of, state_of, node_of}
 use Rattle.own.specs.declared.Owner.{Owner}
 use Rattle.own.specs.declared.Places.{Places}
 use Rattle.own.specs.Own.{first_place, end_place}
-use Rattle.instance.specs.Instance.{came, status_set, value_in, instances, none_came}
+use Rattle.closing.specs.Closing.{came, status_set, value_in, instances, none_came}
 use Rattle.own.proofs.Ahead.{inside}
-use Rattle.instance.proofs.Instances.{came_known}
 use Rattle.closing.proofs.Rounds.{
+  came_known,
   instances_ahead,
   instances_begin,
   instances_turn,
@@ -80,10 +80,10 @@ did-come-requires : tie.Need-did-come-requires invariant-loop decreases-loop
 did-come-requires c κs = search rules
 
 is-status-set-requires : tie.Need-is-status-set-requires invariant-loop decreases-loop
-is-status-set-requires c κs = (came_known _ _ (sym c.before.did_come.ensures ∙ c.if2.true), search rules)
+is-status-set-requires c κs = (came_known _ _ (sym c.before.did-come.ensures ∙ c.if2.true), search rules)
 
 value-in-requires : tie.Need-value-in-requires invariant-loop decreases-loop
-value-in-requires c κs = (came_known _ _ (sym c.before.before.before.did_come.ensures ∙ c.before.before.if2.true), search rules)
+value-in-requires c κs = (came_known _ _ (sym c.before.before.before.did-come.ensures ∙ c.before.before.if2.true), search rules)
 
 mul-t20 : tie.Need-overflow-mul-t20 invariant-loop decreases-loop
 mul-t20 c = search rules

@@ -1,7 +1,4 @@
--- `message::agree_by` meets its contract, by whether the message is a float: one that is not has another agreement than 1. Assumes nothing.
-use mathlib.Core.Path.{sym, ◌∙◌}
-use mathlib.Core.Bool.{and-true}
-use lib.Dec.{eqb}
+-- `message::agree_by` meets its contract, by whether the message is a float. Assumes nothing.
 use borrow.Author.Rules.{rules}
 use borrow.Author.Tests.{eq-eqb, ne_eqb}
 use Rattle.message.specs.Messages.{agreed_by}
@@ -16,9 +13,7 @@ unfolding agreed_by
 returns c = rw (eq-eqb _ _ c.before.if1.true) c.agree_floats.ensures
 
 agree-requires : tie.Need-agree-requires
-agree-requires c κs =
-    let start = c.before.before in
-    sym (and-true (eqb start.args.g.agreement 1)) ∙ (rw (ne_eqb _ _ c.if1.false) at start.requires)
+agree-requires c κs = search rules
 
 returns-2 : tie.Need-returns-2
 unfolding agreed_by

@@ -3,7 +3,7 @@
 use mathlib.Core.Path.{refl}
 use borrow.Author.Rules.{rules}
 use Rattle.store.specs.Node.{node_of}
-use Rattle.closing.specs.Closing.{close_by_shares}
+use Rattle.closing.specs.Closing.{close_of}
 use Rattle.node.proofs.Outcomes.{done}
 use Rattle.node.proofs.close.Statement.{statement}
 use Rattle.node.proofs.close.Tie as tie
@@ -17,7 +17,7 @@ same_length c = search rules
 returns : tie.Need-returns
 returns c =
     let n = node_of c.before.before.before.before.before.args.node.now in
-    done 0 _ (close_by_shares n) n refl c.before.before.close_round.ensures
+    done 0 _ (close_of n) n refl c.before.before.close_round.ensures
 
 pub close_spec : {M : Type 1} → statement M
 close_spec = tie.close (tie.spec close-round-requires same_length returns)

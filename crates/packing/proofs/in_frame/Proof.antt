@@ -1,13 +1,13 @@
--- `packing::in_frame` meets its contract: a field starts in a byte and has a byte's width, so that it ends before bit 512 of any frame.
+-- `packing::in_frame` meets its contract: a run ends inside the frame exactly if the last byte that it touches lies in the frame.
 -- Assumes nothing.
 use borrow.Author.Rules.{rules}
-use mathlib.Core.Path.{◌≡◌, refl, ap, sym, ◌∙◌}
+use mathlib.Core.Path.{◌≡◌, ap, sym, ◌∙◌}
 use mathlib.Core.Bool.{Bool, ◌&&◌}
-use mathlib.Core.Logic.{⊎_elim}
-use Prim.Native.Nat.{ℕ, ◌+◌, ◌*◌, ◌<◌}
+use Prim.Native.Nat.{ℕ, ◌+◌, ◌*◌, ◌≤◌}
+use native.Mathlib.Decide.{dec_le}
 use native.Mathlib.Omega.{arith}
 use lib.Dec.{leb}
-use borrow.Author.Tests.{le-leb}
+use borrow.Author.Tests.{le-leb, lt-leb}
 use Rattle.packing.specs.Places.{in_frame}
 use Rattle.packing.proofs.in_frame.Statement.{statement}
 use Rattle.packing.proofs.in_frame.Tie as tie
@@ -15,20 +15,20 @@ use Rattle.packing.proofs.in_frame.Tie as tie
 add-end : tie.Need-overflow-add-end
 add-end c = search rules
 
-mul-result : tie.Need-overflow-mul-result
-mul-result c = ⊎_elim (λ w. omega (arith, w.0.taken, w.1)) (λ w. omega (arith, w.1)) c.before.if1.branch
+add-result : tie.Need-overflow-add-result
+add-result c = search rules
 
--- in a frame of more bytes than 64 it ends as well
-long : (end bytes : ℕ) → end < 512 → 64 < bytes → leb end (64 * 8) ≡ leb end (bytes * 8)
-long end bytes h l = le-leb end (64 * 8) (omega arith) ∙ sym (le-leb end (bytes * 8) (omega arith))
+-- the frame bits before `end` touch `count` bytes
+touched : (w end bytes count : ℕ) → end ≤ count * 8 → count * 8 ≤ end + 7 → leb w 32 && leb count bytes ≡ leb w 32 && leb end (bytes * 8)
+touched w end bytes count h l = ap (λ (t : Bool). leb w 32 && t) (go (dec_le end (bytes * 8)))
+  where
+    go : Dec (end ≤ bytes * 8) → leb count bytes ≡ leb end (bytes * 8)
+    go (yes b) = le-leb count bytes (omega arith) ∙ sym (le-leb end (bytes * 8) b)
+    go (no b) = lt-leb count bytes (omega arith) ∙ sym (lt-leb end (bytes * 8) (omega arith))
 
 returns : tie.Need-returns
 unfolding in_frame
-returns c =
-    let args = c.before.before.args in
-    ⊎_elim (λ w. rw w.1 refl)
-    (λ w. rw w.1 (ap (λ (t : Bool). leb args.width 32 && t) (long (args.start + args.width) args.bytes (omega arith) (omega (arith, w.0.left)))))
-    c.before.if1.branch
+returns c = touched c.args.width (c.args.start + c.args.width) c.args.bytes _ (omega arith) (omega arith)
 
 pub in-frame-spec : {M : Type 1} → statement M
-in-frame-spec = tie.close (tie.spec add-end mul-result returns)
+in-frame-spec = tie.close (tie.spec add-end add-result returns)

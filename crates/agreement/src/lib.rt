@@ -1,4 +1,6 @@
 // Agreement on the counting instances of one message: pick any, average, vote. The instances come in frame order; those of floats are patterns.
+#![tactic(auto)]
+
 ghost use Rattle.std.specs.Prelude.{◌≡◌, true, ◌≤◌, ◌^◌, nat_abs, length, take};
 ghost use Rattle.whole.specs.Whole.{all_of};
 ghost use Rattle.agreement.specs.Agreement.{message_value, message_values, sum_of, average, pick_any, count_of, vote, agreed};

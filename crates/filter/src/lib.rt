@@ -1,4 +1,6 @@
 // The message filters, 0 to 13.
+#![tactic(auto)]
+
 ghost use Rattle.std.specs.Prelude.{◌≡◌};
 ghost use Rattle.packing.specs.Values.{pattern_of};
 ghost use Rattle.float.specs.Patterns.{rank_of};

@@ -1,4 +1,6 @@
 // 32-bit floats as patterns: which are set aside, their sum and mean, and their order.
+#![tactic(auto)]
+
 ghost use Rattle.std.specs.Prelude.{◌≡◌};
 ghost use Rattle.float.specs.Patterns.{aside, rank_of};
 ghost use Rattle.float.specs.Running.{running_of, none, more, finish};

@@ -1,4 +1,6 @@
 // What is wrong with one record of a layout file: RANGE, RESERVED, UNUSED and WIDTH, byte by byte, and the lowest byte that is wrong.
+#![tactic(auto)]
+
 ghost use Rattle.std.specs.Prelude.{◌≡◌, false, ◌≤◌, drop};
 ghost use Rattle.ranges.specs.Ranges.{
   word_fits,

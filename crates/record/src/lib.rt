@@ -1,4 +1,6 @@
 // One record of a layout file: its bytes and words by the paper's names, and the runs of frame bits that a field uses.
+#![tactic(auto)]
+
 ghost use Rattle.std.specs.Prelude.{◌≡◌, ◌+◌, ◌*◌, ◌≤◌, length};
 ghost use Rattle.record.specs.Records.{byte_at, record_bytes, word_at, frame_at, message_at, field_at, record_at, pair_below};
 ghost use Rattle.record.specs.Runs.{status_run, past_end, meet};

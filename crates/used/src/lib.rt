@@ -1,4 +1,6 @@
 // The table of used bits, on bytes that the caller lends: a row for each frame, with a bit for each of its bits. Whether a run has a used one is one look.
+#![tactic(auto)]
+
 ghost use Rattle.std.specs.Prelude.{◌≡◌, ◌+◌, ◌<◌, ◌≤◌, length};
 ghost use Rattle.used.specs.Used.{table_size, any_used, with_run};
 

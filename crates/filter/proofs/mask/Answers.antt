@@ -1,0 +1,12 @@
+-- `filter::mask` meets its contract: the code's `&` is `bit_and`. Assumes nothing.
+use mir.Syntax.{w64}
+use mir.ValLaws.{to_z-of_z}
+use Rattle.filter.specs.Filter.{masked}
+use borrow.Author.Rules.{rules}
+use Rattle.filter.proofs.mask.Goals as goal
+
+pub returns : goal.returns
+unfolding masked
+returns c =
+    let a = c in
+    rw (c.pattern_of.ensures, to_z-of_z w64 a.args.value a.ranges.value)

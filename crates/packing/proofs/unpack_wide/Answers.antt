@@ -1,0 +1,25 @@
+-- `packing::unpack_wide` meets its contract: the number of the eight bytes from the field's first one on, shifted down and cut to the width, is what
+-- `unpacked` says.
+-- Assumes nothing.
+use borrow.Author.Rules.{rules}
+use mathlib.Core.Path.{◌≡◌, sym}
+use Prim.Native.Nat.{◌+◌, ◌-◌, ◌/◌}
+use native.Mathlib.Omega.{arith}
+use Rattle.whole.specs.Whole.{Bytes}
+use Rattle.packing.proofs.Windows.{ordered_window, unpacked_window}
+use Rattle.packing.proofs.unpack_wide.Goals as goal
+
+pub returns : goal.returns
+returns c =
+    let a = c.args in
+    let bytes : Bytes a.room.now = λ i. (c.type_inv.room i).fits in
+    let at = a.start / 8 in
+    let e : at + 8 - at ≡ 8 = omega arith in
+    rw (
+      c.cut.ensures,
+      c.low_bit.ensures.0,
+      c.in_order-x.ensures,
+      c.eight_bytes.ensures,
+      ordered_window a.big at a.room.now bytes,
+    )
+    (sym (rw e at (unpacked_window a.big at (at + 8) a.start a.width (omega arith) (omega arith) a.room.now bytes)))

@@ -1,0 +1,10 @@
+-- Whether two runs share a bit: the code's tests are the definition's.
+-- Assumes nothing.
+use mathlib.Core.Path.{refl}
+use borrow.Author.Rules.{rules}
+use Rattle.record.specs.Runs.{meet}
+use Rattle.record.proofs.runs_meet.Goals as goal
+
+pub returns : goal.returns
+unfolding meet
+returns c = refl

@@ -42,7 +42,7 @@ fn value_in(node: &[u8], g: Message, x: Field) -> i64
 }
 
 // What was gathered of a message: how many instances count, and whether none of its frames came.
-#[derive(Drop)]
+#[derive(Clone, Copy)]
 struct Gathered {
     number: usize,
     none: bool,

@@ -6,14 +6,14 @@ ghost use Rattle.float.specs.Patterns.{aside, rank_of};
 ghost use Rattle.float.specs.Running.{running_of, none, more, finish};
 
 // The sum of some floats in their order, and their number.
-#[derive(Drop)]
+#[derive(Clone, Copy)]
 pub struct FloatSum {
     pub sum: f32,
     pub count: u8,
 }
 
 // What a mean comes to: the pattern of a finite float, or none.
-#[derive(Drop)]
+#[derive(Clone, Copy)]
 pub enum FloatMean {
     Pattern(u32),
     NoResult,

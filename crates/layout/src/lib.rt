@@ -1,4 +1,6 @@
 // What is said of a layout file: its counts, why it is refused, and the verdict. crates/reader finds it.
+#![tactic(auto)]
+
 ghost use Rattle.std.specs.Prelude.{◌≡◌, ◌≤◌};
 ghost use Rattle.layout.specs.Counts.{counted_by};
 ghost use Rattle.layout.specs.Numbers.{fault_number, number_of, byte_of};
@@ -7,7 +9,7 @@ use ranges::Fault;
 use record::Record;
 
 // How many records of each kind there are.
-#[derive(Drop)]
+#[derive(Clone, Copy)]
 pub struct Counts {
     pub frames: usize,
     pub messages: usize,
@@ -15,7 +17,7 @@ pub struct Counts {
 }
 
 // Why a file is refused; where it is a byte of the record, the lowest that is wrong.
-#[derive(Drop)]
+#[derive(Clone, Copy)]
 pub enum Refusal {
     Size,
     Order,
@@ -27,14 +29,14 @@ pub enum Refusal {
 }
 
 // What reading a record answers.
-#[derive(Drop)]
+#[derive(Clone, Copy)]
 pub enum Read {
     Record(Record),
     Refused(Refusal),
 }
 
 // What reading a file answers.
-#[derive(Drop)]
+#[derive(Clone, Copy)]
 pub enum Verdict {
     Accepted {
         frames: usize,

@@ -9,7 +9,7 @@ use agreement::Agreed;
 use store::{Field, Frame, Message, MessageState, Stage};
 
 // What happens to a field's stage.
-#[derive(Drop)]
+#[derive(Clone, Copy)]
 pub enum Change {
     Send,
     Load,

@@ -4,14 +4,14 @@ ghost use Rattle.store.specs.Node.{node_size, layout_of};
 ghost use Rattle.own.specs.Own.{InMemory, places_of, cell_at, Given, owns};
 
 // Whose fields: a message's or a frame's.
-#[derive(Drop)]
+#[derive(Clone, Copy)]
 pub enum Owner {
     Message(u8),
     Frame(u8),
 }
 
 // The places where an owner's fields are found: from .. end.
-#[derive(Drop)]
+#[derive(Clone, Copy)]
 pub struct Places {
     pub from: usize,
     pub end: usize,

@@ -18,7 +18,7 @@ ghost use Rattle.ranges.specs.Ranges.{
 use record::{Field, Frame, Message};
 
 // How a byte of a record is wrong, or a word, whose byte is its first.
-#[derive(Drop)]
+#[derive(Clone, Copy)]
 pub enum Fault {
     Range,
     Reserved,
@@ -27,14 +27,14 @@ pub enum Fault {
 }
 
 // What is found at a byte.
-#[derive(Drop)]
+#[derive(Clone, Copy)]
 pub enum Finding {
     Right,
     Wrong(Fault),
 }
 
 // The lowest wrong byte of a record, if there is one.
-#[derive(Drop)]
+#[derive(Clone, Copy)]
 pub enum RangeFault {
     None,
     At { fault: Fault, byte: u8 },

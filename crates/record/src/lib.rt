@@ -5,7 +5,7 @@ ghost use Rattle.std.specs.Prelude.{◌≡◌, ◌+◌, ◌*◌, ◌≤◌, leng
 ghost use Rattle.record.specs.Records.{byte_at, record_bytes, word_at, frame_at, message_at, field_at, record_at, pair_below};
 ghost use Rattle.record.specs.Runs.{status_run, past_end, meet};
 
-#[derive(Drop)]
+#[derive(Clone, Copy)]
 pub struct Frame {
     pub number: u8,
     pub length: u8,
@@ -14,7 +14,7 @@ pub struct Frame {
     pub trigger: u8,
 }
 
-#[derive(Drop)]
+#[derive(Clone, Copy)]
 pub struct Message {
     pub number: u8,
     pub width: u8,
@@ -27,7 +27,7 @@ pub struct Message {
     pub initial: u32,
 }
 
-#[derive(Drop)]
+#[derive(Clone, Copy)]
 pub struct Field {
     pub message: u8,
     pub frame: u8,
@@ -36,7 +36,7 @@ pub struct Field {
     pub place: u8,
 }
 
-#[derive(Drop)]
+#[derive(Clone, Copy)]
 pub enum Record {
     Frame(Frame),
     Message(Message),
@@ -44,7 +44,7 @@ pub enum Record {
 }
 
 // Frame bits start, start + 1, .. of that number.
-#[derive(Drop)]
+#[derive(Clone, Copy)]
 pub struct Run {
     pub start: u8,
     pub width: u8,

@@ -49,7 +49,7 @@ use layout::Counts;
 // ---- what the layout says
 
 // A frame: its fields are those whose numbers stand in the index from place first on, of that number.
-#[derive(Drop)]
+#[derive(Clone, Copy)]
 pub struct Frame {
     pub length: u8,
     pub order: u8,
@@ -60,7 +60,7 @@ pub struct Frame {
 }
 
 // A message: its fields are those from first on, of that number.
-#[derive(Drop)]
+#[derive(Clone, Copy)]
 pub struct Message {
     pub width: u8,
     pub sign: u8,
@@ -78,7 +78,7 @@ pub struct Message {
 
 // A message's validity, the pattern of the value that it holds, and its status. With the word in the middle they are more than eight bytes, and are not
 // packed into one register at each call.
-#[derive(Drop)]
+#[derive(Clone, Copy)]
 pub struct MessageState {
     pub valid: u8,
     pub held: u32,
@@ -86,7 +86,7 @@ pub struct MessageState {
 }
 
 // A sent field is waiting, loaded or gone; a gone one keeps its byte, so that every byte is a stage.
-#[derive(Drop)]
+#[derive(Clone, Copy)]
 pub enum Stage {
     Waiting,
     Loaded,
@@ -94,7 +94,7 @@ pub enum Stage {
 }
 
 // A field: its record, which the layout says, and its stage, which calls change.
-#[derive(Drop)]
+#[derive(Clone, Copy)]
 pub struct Field {
     pub message: u8,
     pub frame: u8,

@@ -3,7 +3,6 @@ use mathlib.Core.Path.{◌∙◌}
 use mir.Syntax.{w64}
 use mir.ValLaws.{to_z-of_z}
 use Rattle.filter.specs.Filter.{bound}
-use borrow.Author.Rules.{rules}
 use Rattle.filter.proofs.bound_of.Goals as goal
 
 pub returns : goal.returns

@@ -5,7 +5,6 @@ use mir.Syntax.{w64}
 use mir.ValLaws.{to_z-of_z}
 use Rattle.whole.proofs.Integers.{at_most_lem}
 use Rattle.filter.specs.Filter.{compared}
-use borrow.Author.Rules.{rules}
 use Rattle.filter.proofs.is_at_most.Goals as goal
 
 pub returns : goal.returns

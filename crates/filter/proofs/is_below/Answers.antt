@@ -8,7 +8,6 @@ use Rattle.packing.specs.Values.{pattern_of}
 use Rattle.float.specs.Patterns.{rank_of}
 use Rattle.float.proofs.Ranks.{rank_below}
 use Rattle.filter.specs.Filter.{compared}
-use borrow.Author.Rules.{rules}
 use borrow.Author.Tests.{eq-eqb, ne_eqb}
 use Rattle.filter.proofs.is_below.Goals as goal
 

@@ -2,7 +2,6 @@
 use mir.Syntax.{w64}
 use mir.ValLaws.{to_z-of_z}
 use Rattle.filter.specs.Filter.{masked}
-use borrow.Author.Rules.{rules}
 use Rattle.filter.proofs.mask.Goals as goal
 
 pub returns : goal.returns

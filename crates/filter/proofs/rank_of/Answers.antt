@@ -4,7 +4,6 @@ use mir.Syntax.{w64}
 use mir.ValLaws.{to_z-of_z}
 use Rattle.packing.specs.Values.{pattern_of}
 use Rattle.float.specs.Patterns.{rank_of}
-use borrow.Author.Rules.{rules}
 use Rattle.filter.proofs.rank_of.Goals as goal
 
 pub returns : goal.returns

@@ -7,7 +7,6 @@ use native.Mathlib.Nat.{pos_of_ne-zero}
 use native.Mathlib.Omega.{arith}
 use lib.IntN.{pos}
 use lib.Ieee.{Float, binary32, div, of_int, to_bits}
-use borrow.Author.Rules.{rules}
 use borrow.Author.Tests.{eq-eqb, ne_eqb}
 use Rattle.float.specs.declared.FloatMean.TheVariants.{Pattern, NoResult}
 use Rattle.float.specs.declared.FloatSum.{FloatSum}

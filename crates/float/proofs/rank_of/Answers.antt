@@ -6,7 +6,6 @@ use lib.IntN.{pos, ◌-ℤ◌}
 use mir.Syntax.{w64}
 use mir.Val.{SFits, to_z, of_z}
 use mir.ValLaws.{to_z_pos}
-use borrow.Author.Rules.{rules}
 use Rattle.whole.proofs.Integers.{small_fits, back}
 use Rattle.float.specs.Patterns.{rank_of}
 use Rattle.float.proofs.Ranks.{rank_low, rank_high, rank_small}

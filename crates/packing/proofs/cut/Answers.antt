@@ -1,6 +1,5 @@
 -- `packing::cut` meets its contract: the remainder fits the type that it is cast to.
 -- Assumes nothing.
-use borrow.Author.Rules.{rules}
 use native.Mathlib.Nat.{lt_of_lt_of_le, mod-lt}
 use native.Mathlib.Omega.{arith}
 use lib.Pow.{pow_mono, pow_pos}

@@ -1,16 +1,9 @@
 -- `packing::eight_bytes` meets its contract. The loop's invariant: the lowest d bytes are read. The measure is the number of bytes that are left.
 -- Assumes nothing.
-use mathlib.Core.Path.{◌≡◌, refl}
+use mathlib.Core.Path.{◌≡◌}
 use mathlib.Core.Bool.{false}
-use Prim.Native.Nat.{◌+◌, ◌-◌, ◌*◌, ◌%◌, ◌≤◌, ◌^◌}
-use native.Mathlib.Nat.{zero-add}
-use native.Mathlib.Numerals.{add-one}
-use native.Mathlib.Omega.{arith}
-use lib.ListN.{get_or}
-use lib.Pow.{shl_exact}
-use Rattle.whole.specs.Whole.{Bytes}
-use Rattle.packing.specs.Window.{window_byte, window_of}
-use Rattle.packing.proofs.Windows.{read_next, window_room}
+use Prim.Native.Nat.{◌+◌, ◌-◌, ◌≤◌}
+use Rattle.packing.specs.Window.{window_of}
 use Rattle.packing.proofs.eight_bytes.Given as goal
 
 abbrev pub invariant-loop-d : goal.invariant-loop-d

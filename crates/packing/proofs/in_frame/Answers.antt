@@ -1,6 +1,5 @@
 -- `packing::in_frame` meets its contract: a run ends inside the frame exactly if the last byte that it touches lies in the frame.
 -- Assumes nothing.
-use borrow.Author.Rules.{rules}
 use mathlib.Core.Path.{◌≡◌, ap, sym, ◌∙◌}
 use mathlib.Core.Bool.{Bool, ◌&&◌}
 use Prim.Native.Nat.{ℕ, ◌+◌, ◌*◌, ◌≤◌}

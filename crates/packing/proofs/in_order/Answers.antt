@@ -1,6 +1,5 @@
 -- `packing::in_order` meets its contract: each arm is a case of `in_order`.
 -- Assumes nothing.
-use borrow.Author.Rules.{rules}
 use mathlib.Core.Path.{refl}
 use Rattle.packing.specs.Window.{in_order}
 use Rattle.packing.proofs.in_order.Goals as goal

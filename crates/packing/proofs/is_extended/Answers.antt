@@ -1,6 +1,5 @@
 -- `packing::is_extended` meets its contract: a 32-bit pattern is extended from a width exactly if its value is one of the width's.
 -- Assumes nothing.
-use borrow.Author.Rules.{rules}
 use mathlib.Core.Path.{sym, ◌∙◌}
 use native.Mathlib.Omega.{arith}
 use Rattle.whole.proofs.Integers.{back}

@@ -1,6 +1,5 @@
 -- `packing::largest` meets its contract: a shift of 1 by up to 32 loses no bit of 64, so that one less is all ones and fits 32 bits.
 -- Assumes nothing.
-use borrow.Author.Rules.{rules}
 use mathlib.Core.Path.{◌≡◌}
 use Prim.Native.Nat.{ℕ, ◌-◌, ◌*◌, ◌%◌, ◌^◌, ◌<◌, ◌≤◌}
 use native.Mathlib.Omega.{arith}

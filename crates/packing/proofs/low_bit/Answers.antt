@@ -1,6 +1,5 @@
 -- `packing::low_bit` meets its contract: each arm is a case of `low_bit`.
 -- Assumes nothing.
-use borrow.Author.Rules.{rules}
 use mathlib.Core.Path.{refl}
 use native.Mathlib.Omega.{arith}
 use Rattle.packing.specs.Window.{low_bit}

@@ -1,6 +1,5 @@
 -- `packing::low_bit_in_byte` meets its contract: each arm is a case of `low_bit`, since the field begins in its first byte and ends in its last.
 -- Assumes nothing.
-use borrow.Author.Rules.{rules}
 use native.Mathlib.Omega.{arith}
 use Rattle.packing.specs.Window.{low_bit}
 use Rattle.packing.proofs.low_bit_in_byte.Goals as goal

@@ -1,6 +1,5 @@
 -- `packing::pattern_of` meets its contract: the magnitude's 32 lowest bits, and of a negative value their complement.
 -- Assumes nothing.
-use borrow.Author.Rules.{rules}
 use mathlib.Core.Path.{◌≡◌, refl, ap, sym, ◌∙◌}
 use mathlib.Core.Bool.{true, false, true≢false}
 use Prim.Native.Nat.{◌-◌, ◌%◌, ◌^◌}

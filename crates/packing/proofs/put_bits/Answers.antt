@@ -1,10 +1,8 @@
 use mathlib.Core.Path.{◌≡◌, refl, sym, ◌∙◌}
-use Prim.Native.Nat.{suc, ◌+◌, ◌-◌, ◌*◌, ◌/◌, ◌^◌, ◌<◌, ◌≤◌}
+use Prim.Native.Nat.{suc, ◌+◌, ◌-◌, ◌*◌, ◌/◌, ◌^◌, ◌<◌}
 use native.Mathlib.Omega.{arith}
-use lib.Bits.{bit_and, and_zero_r}
-use lib.ListN.{length, length-set}
-use Rattle.whole.specs.Whole.{Bytes}
-use Rattle.packing.specs.Window.{with_replaced}
+use lib.Bits.{and_zero_r}
+use lib.ListN.{length-set}
 use Rattle.packing.proofs.Windows.{byte_in_mask, mask_turn, replaced_none, replaced_step, rest_in_mask, set_bytes}
 use Rattle.packing.proofs.put_bits.Goals.{In-loop-m}
 use Rattle.packing.proofs.put_bits.Goals as goal

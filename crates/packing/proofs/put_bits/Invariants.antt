@@ -1,14 +1,12 @@
 -- `packing::put_bits` meets its contract. The loop's invariant: the bits that are left to put, from byte d on, into the frame as it is, give what
 -- was asked of the frame as it came. Once the mask has no bits, none are left to put, so that bytes behind byte d stay. The measure is the mask.
 -- Assumes nothing.
-use mathlib.Core.Path.{◌≡◌, refl, sym, ◌∙◌}
-use Prim.Native.Nat.{suc, ◌+◌, ◌-◌, ◌*◌, ◌/◌, ◌^◌, ◌<◌, ◌≤◌}
-use native.Mathlib.Omega.{arith}
-use lib.Bits.{bit_and, and_zero_r}
-use lib.ListN.{length, length-set}
+use mathlib.Core.Path.{◌≡◌}
+use Prim.Native.Nat.{◌-◌, ◌*◌, ◌^◌, ◌<◌, ◌≤◌}
+use lib.Bits.{bit_and}
+use lib.ListN.{length}
 use Rattle.whole.specs.Whole.{Bytes}
 use Rattle.packing.specs.Window.{with_replaced}
-use Rattle.packing.proofs.Windows.{byte_in_mask, mask_turn, replaced_none, replaced_step, rest_in_mask, set_bytes}
 use Rattle.packing.proofs.put_bits.Given as goal
 
 abbrev pub invariant-loop-m : goal.invariant-loop-m

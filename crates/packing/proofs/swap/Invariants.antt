@@ -1,10 +1,8 @@
 -- `packing::swap` meets its contract. The loop's invariant: what is left to swap, behind what is, gives what was asked, and what is swapped has d
 -- bytes. The measure is the number of bytes that are left.
 -- Assumes nothing.
-use mathlib.Core.Path.{◌≡◌, refl, ap, ◌∙◌}
-use Prim.Native.Nat.{ℕ, suc, ◌+◌, ◌-◌, ◌*◌, ◌<◌, ◌≤◌, ◌^◌}
-use native.Mathlib.Omega.{arith}
-use lib.Pow.{pow-add, pow_mono}
+use mathlib.Core.Path.{◌≡◌}
+use Prim.Native.Nat.{◌-◌, ◌*◌, ◌<◌, ◌≤◌, ◌^◌}
 use Rattle.packing.specs.Window.{swapped}
 use Rattle.packing.proofs.swap.Given as goal
 

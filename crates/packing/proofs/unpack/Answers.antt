@@ -1,6 +1,5 @@
 -- `packing::unpack` meets its contract: where the field lies in the frame its places are those of the whole message, and else there are none.
 -- Assumes nothing.
-use borrow.Author.Rules.{rules}
 use mathlib.Core.Path.{◌≡◌, sym, ◌∙◌}
 use mathlib.Core.Bool.{true}
 use native.Mathlib.Omega.{arith}

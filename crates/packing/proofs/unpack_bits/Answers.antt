@@ -1,8 +1,7 @@
 -- `packing::unpack_bits` meets its contract: the number of the field's bytes, shifted down and cut to the width, is what `unpacked` says.
 -- Assumes nothing.
-use borrow.Author.Rules.{rules}
 use mathlib.Core.Path.{sym}
-use Prim.Native.Nat.{◌+◌, ◌-◌, ◌/◌, ◌%◌}
+use Prim.Native.Nat.{◌+◌, ◌/◌, ◌%◌}
 use native.Mathlib.Omega.{arith}
 use Rattle.packing.proofs.Windows.{unpacked_window}
 use Rattle.packing.proofs.unpack_bits.Goals as goal

@@ -1,6 +1,5 @@
 -- `packing::unpack_in` meets its contract: where the field lies in the first n bytes, what stands behind them is not read.
 -- Assumes nothing.
-use borrow.Author.Rules.{rules}
 use mathlib.Core.Path.{◌≡◌, sym, ◌∙◌}
 use mathlib.Core.Bool.{true}
 use native.Mathlib.Omega.{arith}

@@ -1,7 +1,6 @@
 -- `packing::unpack_wide` meets its contract: the number of the eight bytes from the field's first one on, shifted down and cut to the width, is what
 -- `unpacked` says.
 -- Assumes nothing.
-use borrow.Author.Rules.{rules}
 use mathlib.Core.Path.{◌≡◌, sym}
 use Prim.Native.Nat.{◌+◌, ◌-◌, ◌/◌}
 use native.Mathlib.Omega.{arith}

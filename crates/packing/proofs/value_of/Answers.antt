@@ -1,7 +1,6 @@
 -- `packing::value_of` meets its contract: a pattern in the lower half is its own value, and from one in the upper half the code takes 2^width.
 -- All numbers stay near zero, so that each is read back from its bits.
 -- Assumes nothing.
-use borrow.Author.Rules.{rules}
 use mathlib.Core.Path.{◌≡◌, ap, sym, ◌∙◌}
 use Prim.Native.Nat.{ℕ, ◌+◌, ◌*◌, ◌^◌, ◌≤◌, ◌<◌}
 use native.Mathlib.Omega.{arith}

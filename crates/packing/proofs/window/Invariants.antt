@@ -1,11 +1,8 @@
 -- `packing::window` meets its contract. The loop's invariant: the bytes from byte d on are read. The measure is d.
 -- Assumes nothing.
 use mathlib.Core.Path.{◌≡◌}
-use Prim.Native.Nat.{◌-◌, ◌<◌, ◌≤◌, ◌^◌}
-use native.Mathlib.Omega.{arith}
-use Rattle.whole.specs.Whole.{Bytes}
+use Prim.Native.Nat.{◌-◌, ◌≤◌}
 use Rattle.packing.specs.Window.{window_of}
-use Rattle.packing.proofs.Windows.{read_turn, window_room}
 use Rattle.packing.proofs.window.Given as goal
 
 abbrev pub invariant-loop-d : goal.invariant-loop-d

@@ -1,6 +1,5 @@
 -- `packing::window_byte` meets its contract: each arm is a case of `window_byte`.
 -- Assumes nothing.
-use borrow.Author.Rules.{rules}
 use native.Mathlib.Omega.{arith}
 use Rattle.packing.specs.Window.{window_byte}
 use Rattle.packing.proofs.window_byte.Goals as goal

@@ -1,6 +1,5 @@
 -- Record i read as a field: each part is the byte that `byte` ensures.
 -- Assumes nothing.
-use borrow.Author.Rules.{rules}
 use Rattle.record.specs.Records.{field_at}
 use Rattle.record.proofs.field_at.Goals as goal
 

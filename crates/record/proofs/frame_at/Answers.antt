@@ -1,6 +1,5 @@
 -- Record i read as a frame: each part is the byte that `byte` ensures.
 -- Assumes nothing.
-use borrow.Author.Rules.{rules}
 use Rattle.record.specs.Records.{frame_at}
 use Rattle.record.proofs.frame_at.Goals as goal
 

@@ -1,6 +1,5 @@
 -- Record i read as a message: each part is the byte or the word that `byte` or `word` ensures.
 -- Assumes nothing.
-use borrow.Author.Rules.{rules}
 use Rattle.record.specs.Records.{message_at}
 use Rattle.record.proofs.message_at.Goals as goal
 

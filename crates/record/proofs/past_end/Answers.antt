@@ -1,7 +1,6 @@
 -- Whether a run goes past the end of a frame: the code's tests are the definition's.
 -- Assumes nothing.
 use mathlib.Core.Path.{refl}
-use borrow.Author.Rules.{rules}
 use Rattle.record.specs.Runs.{past_end}
 use Rattle.record.proofs.past_end.Goals as goal
 

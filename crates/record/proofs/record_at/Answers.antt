@@ -1,7 +1,6 @@
 -- Record i read by its kind: at each return the tests passed on the way say which of the definition's cases it is.
 -- Assumes nothing.
 use mathlib.Core.Path.{refl}
-use borrow.Author.Rules.{rules}
 use borrow.Author.Tests.{ne_eqb}
 use Rattle.record.specs.Records.{is_frame, is_message, record_at}
 use Rattle.record.proofs.record_at.Goals as goal

@@ -1,7 +1,6 @@
 -- Whether two runs share a bit: the code's tests are the definition's.
 -- Assumes nothing.
 use mathlib.Core.Path.{refl}
-use borrow.Author.Rules.{rules}
 use Rattle.record.specs.Runs.{meet}
 use Rattle.record.proofs.runs_meet.Goals as goal
 

@@ -1,5 +1,4 @@
 -- The four-byte word at byte k of record i: its bytes are what `byte` ensures. Assumes nothing.
-use borrow.Author.Rules.{rules}
 use Rattle.record.specs.Records.{word_at}
 use Rattle.record.proofs.word.Goals as goal
 

@@ -1,6 +1,5 @@
 -- `used::add` meets its contract: the row that is lent comes back with ones in the run.
 -- Assumes nothing.
-use borrow.Author.Rules.{rules}
 use Rattle.used.proofs.Rows.{came_back}
 use Rattle.used.proofs.add.Goals as goal
 

@@ -2,7 +2,6 @@
 -- Assumes nothing.
 use mathlib.Core.Path.{ap, ◌∙◌}
 use mathlib.Core.Bool.{false}
-use borrow.Author.Rules.{rules}
 use Rattle.packing.specs.Places.{places_in, unpacked}
 use Rattle.used.proofs.Rows.{lent, asked}
 use Rattle.used.proofs.is_used.Goals as goal

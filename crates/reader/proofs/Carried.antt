@@ -2,7 +2,7 @@
 -- the last record a field, of no lower message; the fields of a message come together, those of the message at hand last of all; and a message
 -- that is passed over never gets one.
 -- Assumes nothing.
-use mathlib.Core.Path.{◌≡◌, refl, sym, ◌∙◌}
+use mathlib.Core.Path.{◌≡◌, refl, sym, ◌∙◌, subst}
 use mathlib.Core.Bool.{Bool, true, false, not, cond, ◌&&◌}
 use mathlib.Core.List.{List}
 use mathlib.Core.Logic.{inl, inr}
@@ -163,7 +163,8 @@ module _ (s : List ℕ) where
 
     pub number_next : {number : ℕ} → number ≡ at_hand s i → number_after s i number ≡ at_hand s (suc i)
     unfolding number_after at_hand tally is_field_of is_field
-    number_next {number} e = rw (back i) (go (ℕ_discrete (byte_at s i 0) 3))
+    number_next {number} e =
+        subst (λ (k : ℕ). number_after s i number ≡ fields_among s (field_at s k).message (suc i)) (sym (back i)) (go (ℕ_discrete (byte_at s i 0) 3))
       where
         go : Dec (byte_at s i 0 ≡ 3) → cond (eqb (byte_at s i 0) 3) (earlier_by s i number + 1) 0 ≡ fields_among s (field_at s i).message (suc i)
         go (yes kind) =

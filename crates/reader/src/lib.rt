@@ -1,5 +1,7 @@
 // The layout reader: a file is accepted, or refused with a record. An accepted file is its own store; what a test asks of the records before is carried
 // from record to record.
+#![tactic(auto)]
+
 ghost use Rattle.std.specs.Prelude.{◌≡◌, cond, ◌+◌, ◌-◌, ◌*◌, ◌<◌, ◌≤◌, ltb, length, replicate};
 ghost use Rattle.record.specs.Runs.{message_run};
 ghost use Rattle.used.specs.Used.{table_size};

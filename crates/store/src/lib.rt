@@ -1,4 +1,6 @@
 // One node in memory that the caller lends: cells are read into structs, and what changes is written back; nothing else touches the bytes.
+#![tactic(auto)]
+
 ghost use Rattle.std.specs.Prelude.{◌≡◌, [], ◌++◌, ◌+◌, ◌<◌, ◌≤◌, min, ltb, length, replicate, drop};
 ghost use Rattle.std.proofs.Math.Seq.{paste};
 ghost use Rattle.store.specs.Node.{

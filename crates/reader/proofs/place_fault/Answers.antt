@@ -1,0 +1,118 @@
+-- PLACE: a record of another kind passes; of a field, with what each callee ensures put in, the code's tests are the definition's list, the last of
+-- which the table answers.
+-- Assumes nothing.
+use mathlib.Core.Path.{◌≡◌, refl, sym, ◌∙◌}
+use mathlib.Core.Bool.{Bool, ◌||◌, false}
+use mathlib.Core.List.{List}
+use Prim.Native.Nat.{ℕ, ◌+◌, ◌≤◌}
+use native.Mathlib.Omega.{arith}
+use lib.Dec.{eqb}
+use borrow.Author.Tests.{not-true, not-false, eqb-true}
+use Rattle.record.specs.Records.{byte_at, is_field, message_at, field_at}
+use Rattle.record.specs.Runs.{message_run, status_run, past_end, meet}
+use Rattle.record.proofs.Tests.{or_clear}
+use Rattle.record.proofs.Own.{byte_read, field_read}
+use Rattle.layout.specs.Counts.{frame_numbered, message_numbered}
+use Rattle.layout.specs.Verdict.{place_fault}
+use Rattle.reader.proofs.Bits.{message_in_row, status_in_row, clashes}
+use borrow.Author.Rules.{rules}
+use Rattle.reader.proofs.place_fault.Goals.{After-runs_meet, Else-not-byte, Else-past_end-runs_meet}
+use Rattle.reader.proofs.place_fault.Goals as goal
+
+-- what is known of a field: its kind, and what the code's first three tests say
+kind :
+    (c : Else-not-byte)
+    → let a = c.args in
+    byte_at a.file.now a.i 0 ≡ 3
+kind c =
+    sym (byte_read _ _ c.bytes-own.ensures 0 (omega arith) c.byte.ensures)
+    ∙ eqb-true c.byte.result 3 (not-false (eqb c.byte.result 3) c.if-not-byte.false-raw)
+
+told :
+    (c : After-runs_meet) {b : Bool}
+    → ((c.past_end.result || c.past_end-2.result) || c.runs_meet.result) ≡ b
+    → let a = c.args in
+    let r = field_at a.file.now a.i in
+    let g = message_numbered a.file.now a.c r.message in
+    let h = frame_numbered a.file.now r.frame in
+    ((past_end h.length (message_run g r) || past_end h.length (status_run r)) || meet (message_run g r) (status_run r)) ≡ b
+told c e =
+    rw (
+      c.past_end.ensures,
+      c.past_end-2.ensures,
+      c.runs_meet.ensures,
+      c.message_run-a.ensures,
+      c.status_run-b.ensures,
+      c.frame_at-h.ensures,
+      field_read _ _ c.bytes-own.ensures c.field_at-r.ensures,
+    )
+    at e
+
+-- and that its runs lie in its frame's row
+record InRow (s : List ℕ) (F i : ℕ) : Type 0 where
+  pub message : (field_at s i).start + (message_at s (F + (field_at s i).message)).width ≤ 256
+  pub status : (field_at s i).place + (field_at s i).status ≤ 256
+
+in_row :
+    (c : Else-past_end-runs_meet)
+    → let a = c.args in
+    let r = field_at a.file.now a.i in
+    let g = message_numbered a.file.now a.c r.message in
+    let h = frame_numbered a.file.now r.frame in
+    byte_at a.file.now a.i 0 ≡ 3
+    → ((past_end h.length (message_run g r) || past_end h.length (status_run r)) || meet (message_run g r) (status_run r)) ≡ false
+    → InRow a.file.now a.c.frames a.i
+in_row c k none =
+    let a = c.args in
+    let row = c.requires.3 in
+    let r = field_at a.file.now a.i in
+    let g = message_numbered a.file.now a.c r.message in
+    let h = frame_numbered a.file.now r.frame in
+    let both = or_clear (past_end h.length (message_run g r) || past_end h.length (status_run r)) (meet (message_run g r) (status_run r)) in
+    let each = or_clear (past_end h.length (message_run g r)) (past_end h.length (status_run r)) in
+    let clear = each.0 (both.0 none).0 in
+    record { message = message_in_row _ _ _ k row clear.0; status = status_in_row _ _ _ k row clear.1 }
+
+pub returns-then-not-byte : goal.returns-then-not-byte
+unfolding place_fault is_field
+returns-then-not-byte c =
+    let kind = byte_read _ _ c.bytes-own.ensures 0 (omega arith) c.byte.ensures in
+    rw (← kind, not-true (eqb c.byte.result 3) c.if-not-byte.true-raw)
+
+pub returns-then-past_end-runs_meet : goal.returns-then-past_end-runs_meet
+unfolding place_fault is_field
+returns-then-past_end-runs_meet c = rw (kind (goal.at.returns-then-past_end-runs_meet c).Else-not-byte, told (goal.at.returns-then-past_end-runs_meet c).After-runs_meet c.if-past_end-runs_meet.true) refl
+
+pub is_used-requires : goal.is_used-requires
+is_used-requires c =
+    let t = c in
+    let w = t.requires in
+    let k = kind (goal.at.is_used-requires c).Else-not-byte in
+    rw (t.message_run-a.ensures, field_read _ _ t.bytes-own.ensures t.field_at-r.ensures) (w.3.frame k, w.3.width_to k, (in_row (goal.at.is_used-requires c).Else-past_end-runs_meet k (told (goal.at.is_used-requires c).After-runs_meet c.if-past_end-runs_meet.false)).message, w.4.size)
+
+pub is_used-requires-2 : goal.is_used-requires-2
+is_used-requires-2 c =
+    let t = c in
+    let w = t.requires in
+    let k = kind (goal.at.is_used-requires-2 c).Else-not-byte in
+    let one = w.3.status k in
+    rw (t.status_run-b.ensures, field_read _ _ t.bytes-own.ensures t.field_at-r.ensures) (w.3.frame k, omega arith, (in_row (goal.at.is_used-requires-2 c).Else-past_end-runs_meet k (told (goal.at.is_used-requires-2 c).After-runs_meet c.if-past_end-runs_meet.false)).status, w.4.size)
+
+pub returns : goal.returns
+unfolding place_fault is_field
+returns c =
+    let t = c in
+    let a = t.args in
+    let w = t.requires in
+    let k = kind (goal.at.returns c).Else-not-byte in
+    rw (
+      k,
+      told (goal.at.returns c).After-runs_meet t.if-past_end-runs_meet.false,
+      ← clashes _ a.i a.c w.4 (w.3.frame k) (in_row (goal.at.returns c).Else-past_end-runs_meet k (told (goal.at.returns c).After-runs_meet c.if-past_end-runs_meet.false)).message (in_row (goal.at.returns c).Else-past_end-runs_meet k (told (goal.at.returns c).After-runs_meet c.if-past_end-runs_meet.false)).status,
+      c.is_used.ensures,
+      c.is_used-2.ensures,
+      t.message_run-a.ensures,
+      t.status_run-b.ensures,
+      field_read _ _ t.bytes-own.ensures t.field_at-r.ensures,
+    )
+    refl

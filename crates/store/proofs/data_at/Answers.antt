@@ -1,0 +1,19 @@
+-- `store::data_at` meets its contract: what is lent is where the data of the frame lie.
+-- Assumes nothing.
+use mathlib.Core.Path.{ap, sym, ◌∙◌}
+use Prim.Native.Nat.{ℕ, ◌+◌, ◌*◌}
+use borrow.Author.Rules.{rules}
+use Rattle.store.specs.Memory.{part}
+use Rattle.store.specs.Node.{deliveries_at}
+use Rattle.store.proofs.Parts.{part_lent}
+use Rattle.store.proofs.Places.{data_read}
+use Rattle.store.proofs.data_at.Goals as goal
+
+pub returns : goal.returns
+returns c =
+    let s = c in
+    let node = s.args.node.now in
+    let from : ℕ = deliveries_at + s.args.f * 33 + 1 in
+    part_lent node from c.at_most.result
+    ∙ ap (part node from) c.at_most.ensures
+    ∙ sym (data_read node s.requires.1 s.args.f s.requires.0)

@@ -1,0 +1,11 @@
+-- `store::field_at` meets its contract: what the layout says of the field is read, and its stage from the byte where it lies.
+-- Assumes nothing.
+use borrow.Author.Rules.{rules}
+use Rattle.store.proofs.Places.{stage_read}
+use Rattle.store.proofs.field_at.Goals as goal
+
+pub returns : goal.returns
+returns c =
+    let laid = c in
+    let s = laid in
+    cc (laid.laid_at-x.ensures, c.stage_of.ensures, stage_read s.args.node.now s.args.d s.requires.0)

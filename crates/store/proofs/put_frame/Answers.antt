@@ -1,0 +1,21 @@
+-- `store::put_frame` meets its contract: the cell is written where it lies, and what is stored there is read back.
+-- Assumes nothing.
+use Prim.Native.Nat.{◌+◌, ◌*◌}
+use borrow.Author.Rules.{rules}
+use Rattle.store.specs.Node.{frames_at, frame_bytes}
+use Rattle.store.proofs.Parts.{part_back}
+use Rattle.store.proofs.Cells.{frame_size, frame_decoded}
+use Rattle.store.proofs.Places.{frame_written}
+use Rattle.store.proofs.put_frame.Goals as goal
+
+pub returns : goal.returns
+returns c =
+    let s = c in
+    let node = s.args.node.now in
+    let f = s.args.f in
+    let h = s.args.h in
+    cc (
+      part_back node (frames_at + f * 6) 6 c.write_frame.ensures,
+      frame_written node s.requires.1 f (frame_bytes h) s.requires.0 (frame_size h),
+      frame_decoded h,
+    )

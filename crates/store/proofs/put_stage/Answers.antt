@@ -1,0 +1,12 @@
+-- `store::put_stage` meets its contract: a stage is one byte, which is written where it lies, and the stage is read back from it.
+-- Assumes nothing.
+use borrow.Author.Rules.{rules}
+use Rattle.store.specs.Node.{code_of}
+use Rattle.store.proofs.Places.{stage_written}
+use Rattle.store.proofs.put_stage.Goals as goal
+
+pub returns : goal.returns
+returns c =
+    let s = c in
+    let a = s.args in
+    cc (c.code_of.ensures, stage_written a.node.now s.requires.2 a.d (code_of a.s) s.requires.0, s.requires.1)

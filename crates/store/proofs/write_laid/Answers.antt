@@ -1,0 +1,15 @@
+-- `store::write_laid` meets its contract: the bytes are stored one after the other, and they are the whole cell.
+-- Assumes nothing.
+use native.Mathlib.Omega.{arith}
+use lib.ListN.{length-set}
+use borrow.Author.Rules.{rules}
+use Rattle.store.specs.Node.{laid_bytes}
+use Rattle.store.proofs.Writes.{written_at_once}
+use Rattle.store.proofs.write_laid.Goals as goal
+
+pub bounds-c-4 : goal.bounds-c-4
+bounds-c-4 c = simp length-set (omega arith)
+
+pub returns : goal.returns
+unfolding laid_bytes
+returns c = written_at_once c.args.c.now (laid_bytes c.args.x) c.requires

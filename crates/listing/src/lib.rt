@@ -1,4 +1,6 @@
 // The text of the listing program, written into a lent buffer.
+#![tactic(auto)]
+
 ghost use Rattle.std.specs.Prelude.{[], ◌∷◌, ◌++◌, ◌+◌, ◌*◌, ◌<◌, ◌≤◌, length};
 ghost use Rattle.listing.specs.Text.{decimal, space, status_text, line_of, line_at, lines, byte_text, refusal_text, listing};
 ghost use Rattle.listing.specs.Put.{Put};

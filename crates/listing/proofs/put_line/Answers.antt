@@ -1,0 +1,22 @@
+-- A line: its parts are written one after the other, and the law of two texts joins them.
+-- Assumes nothing.
+use mathlib.Core.List.{append_assoc}
+use borrow.Author.Rules.{rules}
+use Rattle.listing.specs.Text.{line_of}
+use Rattle.listing.proofs.Puts.{put_both}
+use Rattle.listing.proofs.put_line.Goals as goal
+
+pub returns : goal.returns
+unfolding line_of
+returns c =
+    let end = c in
+    let status = end in
+    let width = status in
+    let start = width in
+    let frame = start in
+    let message = frame in
+    simp append_assoc at
+    (put_both message.put_spaced-a.ensures
+    (put_both frame.put_spaced-b.ensures
+    (put_both start.put_spaced-c.ensures
+    (put_both width.put_spaced-d.ensures (put_both status.put_status-e.ensures end.put.ensures)))))

@@ -1,0 +1,11 @@
+-- A number and then a space: the law of two texts one after the other.
+-- Assumes nothing.
+use borrow.Author.Rules.{rules}
+use Rattle.listing.proofs.Puts.{put_both}
+use Rattle.listing.proofs.put_spaced.Goals as goal
+
+pub returns : goal.returns
+returns c =
+    let last = c in
+    let first = last in
+    put_both first.put_number-p.ensures last.put.ensures

@@ -1,0 +1,20 @@
+-- The status bit's place where it is present, and `-` where it is not: the code's test is the definition's.
+-- Assumes nothing.
+use native.Mathlib.Omega.{arith}
+use borrow.Author.Rules.{rules}
+use borrow.Author.Tests.{eq-eqb, ne_eqb}
+use Rattle.listing.specs.Text.{status_text}
+use Rattle.listing.proofs.Puts.{put_within}
+use Rattle.listing.proofs.put_status.Goals as goal
+
+pub returns-then-r-eq1 : goal.returns-then-r-eq1
+unfolding status_text
+returns-then-r-eq1 c =
+    let test = c in
+    rw (eq-eqb test.args.r.status 1 test.if-r-eq1.true) c.put_number.ensures
+
+pub returns : goal.returns
+unfolding status_text
+returns c =
+    let test = c in
+    rw (ne_eqb test.args.r.status 1 test.if-r-eq1.false) (put_within c.put.ensures (omega arith))

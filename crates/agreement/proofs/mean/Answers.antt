@@ -1,24 +1,23 @@
 -- `agreement::mean` meets its contract. The code's two tests are those of `message_values`, so a sum is taken of such instances alone; the sum and the quotient
 -- have room, so that each is read back from its bits as it is. Assumes nothing.
 use mathlib.Core.Path.{◌≡◌, ap, ap₂, sym, ◌∙◌}
-use mathlib.Core.Bool.{true, not, ◌&&◌}
+use mathlib.Core.Bool.{Bool, true, false, not, ◌&&◌, ◌||◌}
 use mathlib.Core.List.{List}
 use native.Mathlib.Omega.{arith}
+use lib.Dec.{ltb}
 use lib.IntN.{ℤ, pos}
 use lib.ListN.{length}
 use lib.Signed.{quot_z}
 use mir.Syntax.{w64}
 use mir.Val.{SFits, to_z, of_z}
 use mir.ValLaws.{to_z-of_z, to_z_pos}
-use borrow.Author.Rules.{rules}
-use borrow.Author.Tests.{not-true, not-false}
 use Rattle.whole.specs.Whole.{all_of}
 use Rattle.whole.proofs.Integers.{small_fits, back}
 use Rattle.agreement.specs.declared.Agreed.TheVariants.{Value}
 use Rattle.agreement.specs.Agreement.{mean_of, message_value, message_values}
 use Rattle.agreement.proofs.MessageValues.{values_test, values_parts, no_mean, has_mean}
 use Rattle.agreement.proofs.Quotient.{quotient_small}
-use Rattle.agreement.proofs.mean.Goals.{After-all_values, After-sum_of, Else-not-all_values}
+use Rattle.agreement.proofs.mean.Goals.{After-sum_of, Else-not-all_values}
 use Rattle.agreement.proofs.mean.Goals as goal
 
 pub returns-then-n : goal.returns-then-n
@@ -27,18 +26,16 @@ returns-then-n c =
     no_mean l (values_test l ∙ ap (λ t. not t && all_of message_value l) c.if-n.true)
 
 -- after the test of the count, that of the values decides
-decided : (c : After-all_values) → message_values c.args.instances.now ≡ c.all_values.result
-decided c =
-    let l = c.args.instances.now in
-    values_test l ∙ ap (λ t. not t && all_of message_value l) c.if-n.false ∙ sym c.all_values.ensures
+decided : (l : List ℤ) (t : Bool) → (ltb (length l) 1 || ltb 8 (length l)) ≡ false → t ≡ all_of message_value l → message_values l ≡ t
+decided l t few e = values_test l ∙ ap (λ b. not b && all_of message_value l) few ∙ sym e
 
 pub returns-then-not-all_values : goal.returns-then-not-all_values
 returns-then-not-all_values c =
     let l = c.args.instances.now in
-    no_mean l (decided (goal.at.returns-then-not-all_values c).After-all_values ∙ not-true c.all_values.result c.if-not-all_values.true-raw)
+    no_mean l (decided l c.all_values.result c.if-n.false c.all_values.ensures ∙ c.if-not-all_values.true)
 
 passed : (c : Else-not-all_values) → message_values c.args.instances.now ≡ true
-passed c = decided c ∙ not-false c.all_values.result c.if-not-all_values.false-raw
+passed c = decided c.args.instances.now c.all_values.result c.if-n.false c.all_values.ensures ∙ c.if-not-all_values.false
 
 pub sum_of-requires : goal.sum_of-requires
 sum_of-requires c = passed c

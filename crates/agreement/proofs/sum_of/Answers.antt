@@ -1,14 +1,15 @@
 use mathlib.Core.Path.{◌≡◌, sym}
 use mathlib.Core.List.{List}
-use Prim.Native.Nat.{◌≤◌, ◌-◌, ◌+◌, ◌*◌, ◌^◌}
+use Prim.Native.Nat.{◌≤◌, ◌+◌, ◌*◌, ◌^◌}
 use native.Mathlib.Omega.{arith}
 use lib.IntN.{ℤ, pos, nat_abs, ◌+ℤ◌, +ℤ_idl}
-use lib.ListN.{length, drop, get_or}
+use lib.ListN.{get_or}
 use mir.Syntax.{w64}
-use mir.Val.{to_z, of_z}
+use mir.Val.{SFits, to_z, of_z}
 use mir.ValLaws.{to_z-of_z}
+use borrow.Author.Rules.{rules}
 use Rattle.whole.proofs.Integers.{small_fits, back}
-use Rattle.agreement.specs.Agreement.{message_value, sum_of}
+use Rattle.agreement.specs.Agreement.{message_value}
 use Rattle.agreement.proofs.Quotient.{abs_add}
 use Rattle.agreement.proofs.MessageValues.{value_small, all_at, values_parts}
 use Rattle.agreement.proofs.Turns.{sum_turn, sum_end}
@@ -30,7 +31,7 @@ module _ (c : After-s-1) where
   sum = to_z w64 c.loop-j.s-bits +ℤ added
 
   read : to_z w64 (of_z w64 added) ≡ added
-  read = to_z-of_z w64 added (record { sfits = c.s.given })
+  read = let fits : SFits w64 added = search rules in to_z-of_z w64 added fits
 
   small : nat_abs sum ≤ (c.loop-j.j + 1) * 2 ^ 32
   small =
@@ -47,10 +48,10 @@ overflow_add-s c = rw (read c) (small_fits (sum c) (room c))
 pub loop-j-preserved : goal.loop-j-preserved
 loop-j-preserved c =
     let p = c.loop-j in
-    rw (read c, back (sum c) (room c)) (omega arith, small c, sum_turn (instances c) p.j (omega arith) (to_z w64 p.s) p.invariant.2)
+    rw (read c, back (sum c) (room c)) (omega arith, small c, sum_turn (instances c) p.j (omega arith) (to_z w64 p.s-bits) p.invariant.2)
 
 pub returns : goal.returns
 returns c =
     let l = c.args.instances.now in
     let p = c.loop-j in
-    (sum_end l p.j (omega arith) (to_z w64 p.s) p.invariant.2, omega (arith, (values_parts l c.requires).1))
+    (sum_end l p.j (omega arith) (to_z w64 p.s-bits) p.invariant.2, omega (arith, (values_parts l c.requires).1))

@@ -1,13 +1,14 @@
 use mathlib.Core.Path.{◌≡◌, ap, sym, ◌∙◌}
-use Prim.Native.Nat.{◌≤◌, ◌-◌, ◌+◌}
+use Prim.Native.Nat.{◌+◌}
 use native.Mathlib.Omega.{arith}
 use lib.IntN.{pos}
-use lib.ListN.{length, drop, get_or}
+use lib.ListN.{drop, get_or}
 use mir.Syntax.{w64}
-use mir.ValLaws.{to_z-of_z, to_z_pos}
+use mir.Val.{SFits, to_z}
+use mir.ValLaws.{to_z-of_z}
 use borrow.Author.Rules.{rules}
 use Rattle.packing.specs.Values.{pattern_of}
-use Rattle.float.specs.Running.{none, more, finish, running_of}
+use Rattle.float.specs.Running.{more, finish, running_of}
 use Rattle.agreement.specs.declared.Agreed.TheVariants.{Value}
 use Rattle.agreement.specs.Floats.{left_of, float_mean}
 use Rattle.agreement.proofs.Running.{running_from, turn, end, agreed_mean, running_mean}
@@ -22,7 +23,8 @@ loop-j-preserved c =
     let p = c.loop-j in
     let l = c.args.instances.now in
     let v = get_or l p.j (pos 0) in
-    let read = to_z-of_z w64 v (record { sfits = c.pattern-of-arg.given }) in
+    let fits : SFits w64 v = search rules in
+    let read = to_z-of_z w64 v fits in
     let added = c.add-s.ensures ∙ ap (more (running_of p.s)) (c.pattern_of.ensures ∙ ap (pattern_of 32) read) in
     (omega arith, p.invariant.1 ∙ turn (running_of p.s) l p.j (omega arith) ∙ ap (λ r. running_from r (drop (p.j + 1) l)) (sym added))
 
@@ -37,8 +39,9 @@ mean-is c =
 
 pub returns-in-Pattern : goal.returns-in-Pattern
 returns-in-Pattern c =
-    let told = c in
-    ap Value (to_z_pos w64 _ (omega (arith, c.known-told.given))) ∙ sym (ap agreed_mean told.x.given.1) ∙ mean-is (goal.at.returns-in-Pattern c).After-divide
+    let x = c.in-Pattern.x in
+    let read : to_z w64 x ≡ pos x = search rules in
+    ap Value read ∙ sym (ap agreed_mean c.in-Pattern.is) ∙ mean-is (goal.at.returns-in-Pattern c).After-divide
 
 pub returns-in-NoResult : goal.returns-in-NoResult
-returns-in-NoResult c = sym (ap agreed_mean c.enum_told.given.1) ∙ mean-is (goal.at.returns-in-NoResult c).After-divide
+returns-in-NoResult c = sym (ap agreed_mean c.in-NoResult.is) ∙ mean-is (goal.at.returns-in-NoResult c).After-divide

@@ -6,6 +6,7 @@ use native.Mathlib.Omega.{arith}
 use lib.IntN.{ℤ, pos}
 use lib.ListN.{length, get_or}
 use mir.Syntax.{w64}
+use mir.Val.{SFits}
 use mir.ValLaws.{to_z-of_z}
 use borrow.Author.Rules.{rules}
 use Rattle.agreement.specs.declared.Agreed.TheVariants.{Value, NoResult}
@@ -26,4 +27,5 @@ returns-then-instances-eq0 c = none c.args.instances.now c.if-instances-eq0.true
 pub returns : goal.returns
 returns c =
     let l = c.args.instances.now in
-    rw (to_z-of_z w64 (get_or l 0 (pos 0)) (record { sfits = c.result-1.given })) (first l c.if-instances-eq0.false)
+    let fits : SFits w64 (get_or l 0 (pos 0)) = search rules in
+    rw (to_z-of_z w64 _ fits) (first l c.if-instances-eq0.false)

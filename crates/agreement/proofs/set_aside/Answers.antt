@@ -1,21 +1,19 @@
 use mathlib.Core.Path.{◌≡◌, refl, ap, sym, ◌∙◌}
 use mathlib.Core.List.{List, ◌∷◌, ◌++◌, append-nil}
-use mathlib.Core.Logic.{⊎_elim}
-use Prim.Native.Nat.{ℕ, ◌+◌, ◌-◌, ◌<◌, ◌≤◌}
+use Prim.Native.Nat.{ℕ, ◌+◌, ◌<◌}
 use native.Mathlib.Omega.{arith}
 use lib.IntN.{ℤ, pos}
-use lib.ListN.{length, take, drop, get_or, length-set}
+use lib.ListN.{take, drop, get_or, length-set}
 use mir.Syntax.{w64}
-use mir.Val.{to_z, of_z}
+use mir.Val.{SFits, to_z, of_z}
 use mir.ValLaws.{to_z-of_z}
 use borrow.Author.Rules.{rules}
-use borrow.Author.Tests.{not-true, not-false}
 use Rattle.whole.proofs.Loops.{next, none_left, taken_more}
 use Rattle.packing.specs.Values.{pattern_of}
 use Rattle.float.specs.Patterns.{aside}
 use Rattle.agreement.specs.Floats.{left_of}
 use Rattle.agreement.proofs.Running.{left_none, left_out, left_in}
-use Rattle.agreement.proofs.set_aside.Goals.{After-is_aside}
+use Rattle.agreement.proofs.set_aside.Goals.{After-is_aside, then-not-is_aside, else-not-is_aside}
 use Rattle.agreement.proofs.set_aside.Goals as goal
 
 pub loop-j-init : goal.loop-j-init
@@ -33,7 +31,7 @@ module _ (c : After-is_aside) where
   v = get_or instances j (pos 0)
 
   read : to_z w64 (of_z w64 v) ≡ v
-  read = to_z-of_z w64 v (record { sfits = c.v.given })
+  read = let fits : SFits w64 v = search rules in to_z-of_z w64 v fits
 
   tested : c.is_aside.result ≡ aside (pattern_of 32 v)
   tested = c.is_aside.ensures ∙ ap aside (c.pattern_of.ensures ∙ ap (pattern_of 32) read)
@@ -55,29 +53,30 @@ overflow_add-n c = omega (arith, room (goal.at.overflow_add-n c).After-is_aside)
 
 pub loop-j-preserved : goal.loop-j-preserved
 loop-j-preserved c =
-    let asked = c in
-    let loop = asked.loop-j in
+    let asked = (goal.at.loop-j-preserved c).After-is_aside in
+    let loop = c.loop-j in
     let l = loop.left in
     let n = loop.n in
-    let so_far = loop.invariant.3 ∙ ap (λ (r : List ℤ). take n l ++ r) (here (goal.at.loop-j-preserved c).After-is_aside) in
-    ⊎_elim
-    (λ w.
-    rw (w.1, w.2, read (goal.at.loop-j-preserved c).After-is_aside) (
-      omega arith,
-      omega arith,
-      length-set l n (v (goal.at.loop-j-preserved c).After-is_aside) ∙ loop.invariant.2,
-      so_far
-          ∙ ap (λ (r : List ℤ). take n l ++ r) (left_in (v (goal.at.loop-j-preserved c).After-is_aside) _ (sym (tested (goal.at.loop-j-preserved c).After-is_aside) ∙ not-true _ w.0.taken))
-          ∙ taken_more l n (v (goal.at.loop-j-preserved c).After-is_aside) _ (omega (arith, room (goal.at.loop-j-preserved c).After-is_aside)),
-    ))
-    (λ w.
-    rw (w.1, w.2) (
-      omega arith,
-      omega arith,
-      loop.invariant.2,
-      so_far ∙ ap (λ (r : List ℤ). take n l ++ r) (left_out (v (goal.at.loop-j-preserved c).After-is_aside) _ (sym (tested (goal.at.loop-j-preserved c).After-is_aside) ∙ not-false _ w.0.left)),
-    ))
-    c.if-not-is_aside.branch
+    let u = v asked in
+    let so_far = loop.invariant.3 ∙ ap (λ (r : List ℤ). take n l ++ r) (here asked) in
+    elim c.if-not-is_aside.branch [
+      | then-not-is_aside w ↦
+          rw (w.left-is, w.n-is, read asked) (
+            omega arith,
+            omega arith,
+            length-set l n u ∙ loop.invariant.2,
+            so_far
+                ∙ ap (λ (r : List ℤ). take n l ++ r) (left_in u _ (sym (tested asked) ∙ w.if-not-is_aside.true))
+                ∙ taken_more l n u _ (omega (arith, room asked)),
+          )
+      | else-not-is_aside w ↦
+          rw (w.left-is, w.n-is) (
+            omega arith,
+            omega arith,
+            loop.invariant.2,
+            so_far ∙ ap (λ (r : List ℤ). take n l ++ r) (left_out u _ (sym (tested asked) ∙ w.if-not-is_aside.false)),
+          )
+    ]
 
 pub returns : goal.returns
 returns c =

@@ -9,7 +9,7 @@ ghost use Rattle.agreement.specs.Floats.{left_of, float_mean, floats_agreed};
 use float::FloatMean;
 
 // What an agreement comes to.
-#[derive(Drop)]
+#[derive(Clone, Copy)]
 pub enum Agreed {
     Value(i64),
     NoResult,

@@ -1,4 +1,6 @@
 // What a call or a closing makes of one message and of one field, by value: no memory.
+#![tactic(auto)]
+
 ghost use Rattle.std.specs.Prelude.{◌≡◌, cond};
 ghost use Rattle.packing.specs.Values.{pattern_of};
 ghost use Rattle.store.specs.Node.{with_status, with_held};

@@ -1,4 +1,6 @@
 // Whose fields are whose: where a message's and a frame's fields are found, and which cells there are theirs, on memory of any content.
+#![tactic(auto)]
+
 ghost use Rattle.std.specs.Prelude.{◌≡◌, ◌<◌, ◌≤◌, length};
 ghost use Rattle.store.specs.Node.{node_size, layout_of};
 ghost use Rattle.own.specs.Own.{InMemory, places_of, cell_at, Given, owns};

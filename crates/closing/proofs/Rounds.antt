@@ -2,7 +2,7 @@
 -- frame came, is what the cells ahead say. Messages are closed one after the other, each as the node was when the closing began: a closing reads the
 -- layout, the deliveries and its own message's state, which is not replaced before it is closed. Then the deliveries of the layout's frames are forgotten.
 -- Assumes nothing.
-use mathlib.Core.Path.{◌≡◌, refl, ap, ap₂, sym, ◌∙◌}
+use mathlib.Core.Path.{◌≡◌, refl, ap, ap₂, sym, ◌∙◌, subst}
 use mathlib.Core.Bool.{Bool, true, false, not, cond, ◌&&◌, and-eq-true_iff, and-true, and-false, false≢true}
 use mathlib.Core.List.{List, [], ◌∷◌, ◌++◌, map}
 use Prim.Native.Nat.{ℕ, zero, suc, ◌+◌, ◌<◌, ◌≤◌}
@@ -201,7 +201,12 @@ first_forgotten zero k l few = sym (rest_stays (λ f. ltb f (k + 0)) (λ f y. no
 first_forgotten (suc n) k [] few = absurd (omega arith)
 first_forgotten (suc n) k (x ∷ l) few =
     let next : k + suc n ≡ suc k + n = omega arith in
-    rw (lt-ltb k (k + suc n) (omega arith), next) (ap (λ (r : List Delivery). no_delivery ∷ r) (first_forgotten n (suc k) l (omega arith)))
+    let rest =
+    subst
+    (λ (m : ℕ). replicate n no_delivery ++ drop n l ≡ changed (λ f. ltb f m) (λ f y. no_delivery) (suc k) l)
+    (sym next)
+    (first_forgotten n (suc k) l (omega arith)) in
+    rw (lt-ltb k (k + suc n) (omega arith)) (ap (λ (r : List Delivery). no_delivery ∷ r) rest)
 
 all_forgotten : (n : ℕ) (l : List Delivery) → n ≤ length l → replicate n no_delivery ++ drop n l ≡ changed (λ f. ltb f n) (λ f y. no_delivery) 0 l
 all_forgotten n l few = rw zero-add at (first_forgotten n 0 l few)

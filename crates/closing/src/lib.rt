@@ -1,4 +1,6 @@
 // The closing of a round: each received message by itself, then the round's deliveries are forgotten.
+#![tactic(auto)]
+
 ghost use Rattle.std.specs.Prelude.{◌≡◌, ◌<◌, ◌≤◌, length, take};
 ghost use Rattle.store.specs.Node.{node_size, state_of, node_of, state_at, with_state, node_with};
 ghost use Rattle.closing.specs.Closing.{came, status_set, value_in, instances, none_came, closed_state, close_messages, close_of};

@@ -12,6 +12,7 @@ use lib.Signed.{quot_z}
 use mir.Syntax.{w64}
 use mir.Val.{SFits, to_z, of_z}
 use mir.ValLaws.{to_z-of_z, to_z_pos}
+use Rattle.std.proofs.lemmas.Int.{ints}
 use Rattle.whole.specs.Whole.{all_of}
 use Rattle.whole.proofs.Integers.{small_fits, back}
 use Rattle.agreement.specs.declared.Agreed.TheVariants.{Value}
@@ -41,32 +42,27 @@ passed c = decided c.args.instances.now c.all_values.result c.if-n.false c.all_v
 pub sum_of-requires : goal.sum_of-requires
 sum_of-requires c = passed c
 
--- the division: whatever divides it, the quotient has room; and the bits stand for the sum and the count
-module _ (l : List ℤ) (sum : ℤ) (small : nat_abs sum ≤ 2 ^ 35) where
-  read-sum : to_z w64 (of_z w64 sum) ≡ sum
-  read-sum = back sum (omega arith)
-
-  read_count : length l ≤ 8 → to_z w64 (length l) ≡ pos (length l)
-  read_count few = to_z_pos w64 (length l) (omega arith)
-
-  room : (d : ℤ) → SFits w64 (quot_z (to_z w64 (of_z w64 sum)) d)
-  room d = rw read-sum (small_fits (quot_z sum d) (omega (arith, quotient_small sum d)))
-
-  mean-is : sum ≡ sum_of l → quot_z sum (pos (length l)) ≡ mean_of l
-  unfolding mean_of
-  mean-is e = ap (λ s. quot_z s (pos (length l))) e
+-- whatever divides it, a sum that has room leaves its quotient room
+room : (s d : ℤ) → nat_abs s ≤ 2 ^ 35 → SFits w64 (quot_z s d)
+room s d h = small_fits (quot_z s d) (omega (arith, quotient_small s d))
 
 pub nonzero_div-result : goal.nonzero_div-result
 nonzero_div-result c =
-    let l = c.args.instances.now in
-    let parts = values_parts l (passed (goal.at.nonzero_div-result c).Else-not-all_values) in
-    (omega (arith, parts.0), room l c.sum_of.result c.sum_of.ensures.1 _)
+    let parts = values_parts c.args.instances.now (passed (goal.at.nonzero_div-result c).Else-not-all_values) in
+    (omega (arith, parts.0), search (arith, ints, room, c.sum_of.ensures.1))
 
+mean-is : (s : ℤ) (l : List ℤ) → s ≡ sum_of l → quot_z s (pos (length l)) ≡ mean_of l
+unfolding mean_of
+mean-is s l e = ap (λ z. quot_z z (pos (length l))) e
+
+-- the bits stand for the sum, the count and the quotient
 pub returns : goal.returns
 returns c =
     let l = c.args.instances.now in
     let s = c.sum_of.result in
     let small = c.sum_of.ensures.1 in
     let values = passed (goal.at.returns c).Else-not-all_values in
-    let few = (values_parts l values).1 in
-    ap Value (to_z-of_z w64 _ (room l s small _) ∙ ap₂ quot_z (read-sum l s small) (read_count l s small few) ∙ mean-is l s small c.sum_of.ensures.0) ∙ has_mean l values
+    let read-sum : to_z w64 (of_z w64 s) ≡ s = back s (omega arith) in
+    let read_count : to_z w64 (length l) ≡ pos (length l) = to_z_pos w64 (length l) (omega (arith, (values_parts l values).1)) in
+    let read = to_z-of_z w64 _ (room s (pos (length l)) small) in
+    ap Value (ap (λ z. to_z w64 (of_z w64 z)) (ap₂ quot_z read-sum read_count) ∙ read ∙ mean-is s l c.sum_of.ensures.0) ∙ has_mean l values

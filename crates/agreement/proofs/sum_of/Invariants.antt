@@ -9,7 +9,7 @@ use Rattle.agreement.proofs.sum_of.Given as goal
 
 abbrev pub invariant-loop-j : goal.invariant-loop-j
 invariant-loop-j l =
-    (l.j ≤ length l.instances) × (nat_abs (l.s) ≤ l.j * 2 ^ 32) × (sum_of l.instances ≡ l.s +ℤ sum_of (drop l.j l.instances))
+    (l.j ≤ length l.instances) × (nat_abs l.s ≤ l.j * 2 ^ 32) × (sum_of l.instances ≡ l.s +ℤ sum_of (drop l.j l.instances))
 
 abbrev pub decreases-loop-j : goal.decreases-loop-j
 decreases-loop-j l = length l.instances - l.j

@@ -1,0 +1,21 @@
+-- `closing::close_messages` meets its contract. The invariant: the first m messages are closed. Message m is closed as the node was when the closing
+-- began.
+-- Assumes nothing.
+use mathlib.Core.Path.{◌≡◌, refl, ap, ◌∙◌}
+use mathlib.Core.Logic.{⊎_elim}
+use Prim.Native.Nat.{◌-◌, ◌<◌}
+use native.Mathlib.Omega.{arith}
+use lib.ListN.{length}
+use borrow.Author.Tests.{not-true, not-false}
+use borrow.Author.Rules.{rules}
+use Rattle.layout.specs.declared.Counts.{Counts}
+use Rattle.store.specs.Node.{node_size, layout_of, state_of, node_of, message_count}
+use Rattle.store.proofs.Laws.{states_length}
+use Rattle.closing.proofs.Rounds.{closed_to, close_turn, close_skip, close_end}
+use Rattle.closing.proofs.close_messages.Given as goal
+
+abbrev pub invariant-loop-m : goal.invariant-loop-m
+invariant-loop-m l = (l.messages ≡ message_count (layout_of l.initial.node)) × (length l.node ≡ node_size) × (node_of l.node ≡ closed_to (node_of l.initial.node) l.m)
+
+abbrev pub decreases-loop-m : goal.decreases-loop-m
+decreases-loop-m l = l.messages - l.m

@@ -1,9 +1,11 @@
 // The listing program: reads a layout from standard input and lists its fields, or says why it is refused. Where the input cannot be read it says so on
 // standard error, and nothing on standard output.
+#![tactic(auto)]
+
 ghost use Rattle.std.specs.Prelude.{length};
 ghost use Rattle.list.specs.Input.{Within};
 
-use libc::{STDERR_FILENO, STDIN_FILENO, STDOUT_FILENO};
+use std::io::Read;
 
 // What came of standard input: so many bytes, or a read that failed.
 #[derive(Drop)]
@@ -13,16 +15,14 @@ enum Input {
 }
 
 // Reads until the buffer is full or the input ends.
-fn read_input(file: &mut [u8]) -> Input
+fn read_input(from: &mut impl Read, file: &mut [u8]) -> Input
     ensures { Within result (length file.new) }
 {
     let mut n = 0;
     while n < file.len() {
-        let got = libc::read(STDIN_FILENO, &mut file[n..]);
-        if got < 0 {
+        let Ok(more) = from.read(&mut file[n..]) else {
             return Input::Failed;
-        }
-        let more = io::count(got, &file[n..]);
+        };
         if more == 0 {
             break;
         }
@@ -31,14 +31,16 @@ fn read_input(file: &mut [u8]) -> Input
     Input::Bytes(n)
 }
 
-// One byte more than the longest layout is read, so that a longer one is refused however long it is.
-fn main() {
+// One byte more than the longest layout is read, so that a longer one is refused however long it is. A write that fails is passed over.
+fn main(rt: HostRuntime) {
     let mut file = [0u8; 4609];
-    let Input::Bytes(n) = read_input(&mut file) else {
-        io::write_all(STDERR_FILENO, b"list: standard input cannot be read\n");
+    let Input::Bytes(n) = read_input(&mut rt.stdin(), &mut file) else {
+        let _ = rt
+            .stderr()
+            .write_all(b"list: standard input cannot be read\n");
         return;
     };
     let mut out = [0u8; 4096];
     let m = listing::list_file(&file[..n], &mut out);
-    io::write_all(STDOUT_FILENO, &out[..m]);
+    let _ = rt.write_all(&out[..m]);
 }

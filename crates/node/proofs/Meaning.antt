@@ -131,14 +131,14 @@ unfolding assembled
 assembled_length n f b ok = rw ok (written_length n f (fields_of n.layout (Owner.Frame f)) b ∙ assemble_tests n f (length b) ok)
 
 module _ (n : Node) (f : ℕ) where
-  in_frame : (d : ℕ) → InFrame n f d → (laid_at n.layout d).frame ≡ f
-  in_frame d t = eqb-true (laid_at n.layout d).frame f (cell_names n.layout (Owner.Frame f) d t)
+  in_frame_lem : (d : ℕ) → InFrame n f d → (laid_at n.layout d).frame ≡ f
+  in_frame_lem d t = eqb-true (laid_at n.layout d).frame f (cell_names n.layout (Owner.Frame f) d t)
 
   -- a cell of the frame that uses none of the places leaves what stands there
   unused_keeps : (ps : List ℕ) (v : ℕ) (d : ℕ) → InFrame n f d → Unused n ps (laid_at n.layout d) → Keeps n f ps v d
   unused_keeps ps v d t unused b size e =
       let x = laid_at n.layout d in
-      rw (writes_put n f x b size (in_frame d t))
+      rw (writes_put n f x b size (in_frame_lem d t))
       (unpacked_other ps (its_status_places n.layout x) _ _ unused.1 ∙ unpacked_other ps (message_places n.layout x) _ b unused.0 ∙ e)
 
   -- a bit that no field of the frame uses stays
@@ -194,7 +194,7 @@ module _ {n : Node} (s : Sound n) (f : ℕ) (b : List ℕ) (ok : assemble_answer
       rw ok (written_makes n f ps v d makes (frame_cells n f) b (assemble_tests n f (length b) ok) each mine)
     where
       makes : (c : List ℕ) → Sized n f c → unpacked ps (after n f laid c) ≡ v
-      makes c size = let there = in_frame n f d mine in rw (writes_put n f laid c size there) (puts c (rw there size))
+      makes c size = let there = in_frame_lem n f d mine in rw (writes_put n f laid c size there) (puts c (rw there size))
 
       keeps : (e : ℕ) → InFrame n f e → Dec (e ≡ d) → Keeps n f ps v e
       keeps e t (yes h) = λ c size u. rw h (makes c size)
@@ -204,7 +204,7 @@ module _ {n : Node} (s : Sound n) (f : ℕ) (b : List ℕ) (ok : assemble_answer
   others_apart e h t = go (dec_lt d e)
     where
       same : laid.frame ≡ (laid_at n.layout e).frame
-      same = in_frame n f d mine ∙ sym (in_frame n f e t)
+      same = in_frame_lem n f d mine ∙ sym (in_frame_lem n f e t)
 
       go : Dec (d < e) → Apart n.layout laid (laid_at n.layout e)
       go (yes l) = s.layout.apart d e l ((fields_named s.layout (Owner.Frame f) e).0 t).0 same

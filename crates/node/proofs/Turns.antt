@@ -117,10 +117,10 @@ module _ (g : Stage → Stage) (twice : (t : Stage) → g (g t) ≡ g t) where
         (λ j h. let here : j < length t = omega arith in
         moved_at l first j (rw length-set here) ∙ first_at j here (ℕ_discrete j d) ∙ sym (moved_at (d ∷ l) t j here))
 
-  moved_all : (l : List ℕ) (t : List Stage) → moved_all g l t ≡ changed (λ d. is_in d l) (λ d x. g x) 0 t
+  moved_all_lem : (l : List ℕ) (t : List Stage) → moved_all g l t ≡ changed (λ d. is_in d l) (λ d x. g x) 0 t
   unfolding moved_all
-  moved_all [] t = none_moved t
-  moved_all (d ∷ l) t = moved_all l (first d l t) ∙ one_moved d l t
+  moved_all_lem [] t = none_moved t
+  moved_all_lem (d ∷ l) t = moved_all_lem l (first d l t) ∙ one_moved d l t
 
 -- the state with the cells moved on that are ahead at place i
 module _ (c : Change) (o : Owner) where
@@ -130,7 +130,7 @@ module _ (c : Change) (o : Owner) where
   pub move_begin : (n : Node) → moved_ahead n (first_place n.layout o) ≡ moved c o n
   move_begin n =
       rw (first_ahead n.layout o)
-      (ap (with_stages n.state) (moved_all (stage_after c) (after_twice c) (cells_of n.layout o) n.state.stages))
+      (ap (with_stages n.state) (moved_all_lem (stage_after c) (after_twice c) (cells_of n.layout o) n.state.stages))
 
   module _ (n : Node) (i : ℕ) (here : i < end_place n.layout o) {d : ℕ} (told : d ≡ cell_at n.layout o i) {r : Bool}
       (asked : r ≡ owns n.layout o d) where

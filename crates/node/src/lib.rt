@@ -1,4 +1,6 @@
 // The calls on a node in memory that the caller lends. A refused call changes nothing.
+#![tactic(auto)]
+
 ghost use Rattle.std.specs.Prelude.{◌≡◌, ◌<◌, length};
 ghost use Rattle.whole.specs.Whole.{all_of};
 ghost use Rattle.store.specs.Node.{node_size, layout_of, state_of, node_of, message_at, state_at, node_with};

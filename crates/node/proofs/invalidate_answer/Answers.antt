@@ -1,0 +1,48 @@
+-- `node::invalidate_answer` meets its contract: the tests in the code's order, each of what was read. Assumes nothing.
+use mathlib.Core.Path.{◌≡◌}
+use Prim.Native.Nat.{◌<◌}
+use lib.ListN.{length}
+use borrow.Author.Rules.{rules}
+use borrow.Author.Tests.{eq-eqb, ne_eqb}
+use Rattle.store.specs.Node.{node_size, layout_of}
+use Rattle.node.specs.Calls.{invalidate_answer}
+use Rattle.node.proofs.Answers.{counted}
+use Rattle.node.proofs.invalidate_answer.Goals.{Else-not-has_message}
+use Rattle.node.proofs.invalidate_answer.Goals as goal
+
+pub returns-then-not-has_message : goal.returns-then-not-has_message
+unfolding invalidate_answer
+returns-then-not-has_message c = rw (rw c.has_message.ensures at c.if-not-has_message.true-raw)
+
+-- past the first test the message has a cell in the memory
+in_cell : (c : Else-not-has_message) → (c.args.message < 32) × (length c.args.node.now ≡ node_size)
+in_cell c =
+    let start = c in
+    (counted start.args.message (layout_of start.args.node.now).message_number c.has_message.ensures c.if-not-has_message.false-raw, start.requires)
+
+pub message_at-g-requires : goal.message_at-g-requires
+message_at-g-requires c = in_cell c
+
+pub returns-then-not-g : goal.returns-then-not-g
+unfolding invalidate_answer
+returns-then-not-g c =
+    let number = c in
+    rw (rw number.has_message.ensures at number.if-not-has_message.false-raw, rw c.message_at-g.ensures at c.if-not-g.true-raw)
+
+pub returns-then-g-eq0 : goal.returns-then-g-eq0
+unfolding invalidate_answer
+returns-then-g-eq0 c =
+    let access = c in
+    let read = access.message_at-g.ensures in
+    let number = access in
+    rw (rw number.has_message.ensures at number.if-not-has_message.false-raw, rw read at access.if-not-g.false-raw)
+    (rw (eq-eqb _ 0 (rw read at c.if-g-eq0.true)))
+
+pub returns : goal.returns
+unfolding invalidate_answer
+returns c =
+    let access = c in
+    let read = access.message_at-g.ensures in
+    let number = access in
+    rw (rw number.has_message.ensures at number.if-not-has_message.false-raw, rw read at access.if-not-g.false-raw)
+    (rw (ne_eqb _ 0 (rw read at c.if-g-eq0.false)))

@@ -1,0 +1,81 @@
+use mathlib.Core.Path.{◌≡◌, ap, sym, ◌∙◌}
+use mathlib.Core.Logic.{⊎_elim}
+use Prim.Native.Nat.{◌<◌, ◌-◌}
+use native.Mathlib.Omega.{arith}
+use lib.ListN.{length}
+use borrow.Author.Rules.{rules}
+use Rattle.store.specs.Node.{Node, node_size, layout_of, node_of, node_with}
+use Rattle.store.proofs.Laws.{stage_stored}
+use Rattle.own.specs.declared.Places.{Places}
+use Rattle.own.specs.Own.{end_place}
+use Rattle.node.specs.Calls.{moved}
+use Rattle.own.proofs.Ahead.{end_few, inside}
+use Rattle.node.proofs.Turns.{after_stored, moved_ahead, move_begin, move_turn, move_skip, move_end}
+use Rattle.node.proofs.move_fields.Goals.{At-loop-i, else-owns, then-owns}
+use Rattle.node.proofs.move_fields.Goals as goal
+
+same_layout : (c : At-loop-i) → layout_of c.loop-i.node ≡ layout_of c.args.node.now
+same_layout c = ap (λ (k : Node). k.layout) c.loop-i.invariant.1
+
+same_end : (c : At-loop-i) → c.args.own.end ≡ end_place (layout_of c.loop-i.node) c.args.owner
+same_end c = rw (same_layout c) (ap (λ (k : Places). k.end) c.requires.0)
+
+pub loop-i-init : goal.loop-i-init
+loop-i-init c =
+    let begin = c in
+    let n = node_of begin.args.node.now in
+    (begin.requires.1, rw begin.requires.0 (ap (node_with n) (move_begin begin.args.change begin.args.owner n)))
+
+pub cell_at-d-requires : goal.cell_at-d-requires
+cell_at-d-requires c =
+    let loop = c in
+    let few = end_few (layout_of loop.loop-i.node) loop.args.owner in
+    (omega (arith, same_end (goal.at.cell_at-d-requires c).At-loop-i, few), loop.loop-i.invariant.0)
+
+pub owns-requires : goal.owns-requires
+owns-requires c = (c.cell_at-d.ensures.1, search rules)
+
+pub field_at-x-requires : goal.field_at-x-requires
+field_at-x-requires c =
+    let branch = c in
+    (inside _ _ branch.owns.ensures branch.if-owns.true, search rules)
+
+pub put_stage-requires : goal.put_stage-requires
+put_stage-requires c =
+    let read = c in
+    let branch = read in
+    let asked = branch in
+    let told = asked in
+    let loop = told in
+    let stored = after_stored loop.args.change _ (stage_stored loop.loop-i.node told.cell_at-d.result) in
+    (inside _ _ asked.owns.ensures branch.if-owns.true, rw (c.stage_after.ensures, read.field_at-x.ensures) stored, search rules)
+
+pub loop-i-preserved : goal.loop-i-preserved
+loop-i-preserved c =
+    let asked = c in
+    let told = asked in
+    let loop = told in
+    let args = loop.args in
+    let n = node_of loop.loop-i.node in
+    let here : loop.loop-i.i < end_place n.layout args.owner = omega (arith, same_end (goal.at.loop-i-preserved c).At-loop-i) in
+    elim c.if-owns.branch [
+      | then-owns w ↦
+          let put = ap node_of w.node-is ∙ (rw (w.stage_after.ensures, w.field_at-x.ensures) at w.put_stage.ensures) in (
+            c.if-owns.auto.node ∙ loop.loop-i.invariant.0,
+            move_turn args.change args.owner n loop.loop-i.i here told.cell_at-d.ensures.0 asked.owns.ensures w.if-owns.true put
+                ∙ loop.loop-i.invariant.1,
+          )
+      | else-owns w ↦ (
+        c.if-owns.auto.node ∙ loop.loop-i.invariant.0,
+        rw w.node-is
+            (ap (node_with n) (move_skip args.change args.owner n loop.loop-i.i here told.cell_at-d.ensures.0 asked.owns.ensures w.if-owns.false)
+            ∙ loop.loop-i.invariant.1),
+      )
+    ]
+
+pub returns : goal.returns
+returns c =
+    let loop = c in
+    let args = loop.args in
+    let n = node_of loop.loop-i.node in
+    ap (node_with n) (sym (move_end args.change args.owner n loop.loop-i.i (omega (arith, same_end (goal.at.returns c).At-loop-i)))) ∙ loop.loop-i.invariant.1

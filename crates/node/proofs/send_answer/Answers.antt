@@ -1,0 +1,51 @@
+-- `node::send_answer` meets its contract: the tests in the code's order, each of what was read. Assumes nothing.
+use mathlib.Core.Path.{◌≡◌}
+use Prim.Native.Nat.{◌<◌}
+use lib.ListN.{length}
+use mir.Syntax.{w64}
+use mir.ValLaws.{to_z-of_z}
+use borrow.Author.Rules.{rules}
+use Rattle.store.specs.Node.{node_size, layout_of}
+use Rattle.node.specs.Calls.{send_answer}
+use Rattle.node.proofs.Answers.{counted}
+use Rattle.node.proofs.send_answer.Goals.{Else-not-has_message}
+use Rattle.node.proofs.send_answer.Goals as goal
+
+pub returns-then-not-has_message : goal.returns-then-not-has_message
+unfolding send_answer
+returns-then-not-has_message c = rw (rw c.has_message.ensures at c.if-not-has_message.true-raw)
+
+-- past the first test the message has a cell in the memory
+in_cell : (c : Else-not-has_message) → (c.args.message < 32) × (length c.args.node.now ≡ node_size)
+in_cell c =
+    let start = c in
+    (counted start.args.message (layout_of start.args.node.now).message_number c.has_message.ensures c.if-not-has_message.false-raw, start.requires)
+
+pub message_at-g-requires : goal.message_at-g-requires
+message_at-g-requires c = in_cell c
+
+pub returns-then-not-g : goal.returns-then-not-g
+unfolding send_answer
+returns-then-not-g c =
+    let number = c in
+    rw (rw number.has_message.ensures at number.if-not-has_message.false-raw, rw c.message_at-g.ensures at c.if-not-g.true-raw)
+
+pub returns-then-not-can_hold : goal.returns-then-not-can_hold
+unfolding send_answer
+returns-then-not-can_hold c =
+    let access = c in
+    let read = access.message_at-g.ensures in
+    let number = access in
+    let start = number in
+    rw (rw number.has_message.ensures at number.if-not-has_message.false-raw, rw read at access.if-not-g.false-raw)
+    (rw (rw (c.can_hold.ensures, read, to_z-of_z w64 start.args.value start.ranges.value) at c.if-not-can_hold.true-raw))
+
+pub returns : goal.returns
+unfolding send_answer
+returns c =
+    let access = c in
+    let read = access.message_at-g.ensures in
+    let number = access in
+    let start = number in
+    rw (rw number.has_message.ensures at number.if-not-has_message.false-raw, rw read at access.if-not-g.false-raw)
+    (rw (rw (c.can_hold.ensures, read, to_z-of_z w64 start.args.value start.ranges.value) at c.if-not-can_hold.false-raw))

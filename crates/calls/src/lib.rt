@@ -1,1 +1,2 @@
 // The nine calls and their contracts as relations: definitions, and no code.
+#![tactic(auto)]

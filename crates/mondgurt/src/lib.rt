@@ -1,4 +1,6 @@
 // The calls on a node, for C to link: include/mondgurt.h declares them and says what each does. A slice passes as a pointer and then a length.
+#![tactic(auto)]
+
 ghost use Rattle.std.specs.Prelude.{not, eqb};
 ghost use Rattle.calls.specs.Relations.{send, invalidate, assemble, consumed, read_flag, deliver, close, receive};
 ghost use Rattle.calls.specs.Relations.{nothing, buffer as a_buffer, flag as a_flag, value as a_value, sees, Does, Loads};

@@ -196,8 +196,8 @@ module _ (f : ℕ) (b : List ℕ) where
     λ w. inr (w, record { closing = λ i. in_none i; delivery = λ z i. in_none i }),
     λ k. ⊎_elim (λ j. absurd (in_none (last_in j))) (λ w. w.0) k,
   )
-  history {n} s known (c ∷ l) =
-      let rest = history (kept_sound s c) (rw (kept_layout n c) known) l in
+  history {n = n} s known (c ∷ l) =
+      let rest = history {n = next n c} (kept_sound s c) (rw (kept_layout n c) known) l in
       let x = touch s known c in
       (λ w. after l x (rest.0 w), λ k. rest.1 (before l x k))
 

@@ -37,4 +37,4 @@ final_layout n (c ∷ l) = final_layout (next n c) l ∙ kept_layout n c
 
 pub final_sound : {n : Node} → Sound n → (l : List Call) → Sound (final n l)
 final_sound s [] = s
-final_sound s (c ∷ l) = final_sound (kept_sound s c) l
+final_sound {n = n} s (c ∷ l) = final_sound {n = next n c} (kept_sound s c) l

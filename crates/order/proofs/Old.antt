@@ -83,5 +83,5 @@ module _ {n : Node} (s : Sound n) (m : ℕ) (sent : is_sent (message_at n.layout
 pub sent_kept : {n : Node} → Sound n → (m : ℕ) → is_sent (message_at n.layout m) ≡ true → (l : List Call) → (Sent n m l → ⊥)
     → (state_at (final n l).state m).held ≡ (state_at n.state m).held
 sent_kept s m sent [] none = refl
-sent_kept {n} s m sent (c ∷ l) none =
-    sent_kept (kept_sound s c) m (rw (kept_layout n c) sent) l (λ t. none (t.0, there t.1)) ∙ one_call s m sent c (λ v e. none (v, in_eq e))
+sent_kept {n = n} s m sent (c ∷ l) none =
+    sent_kept {n = next n c} (kept_sound s c) m (rw (kept_layout n c) sent) l (λ t. none (t.0, there t.1)) ∙ one_call s m sent c (λ v e. none (v, in_eq e))

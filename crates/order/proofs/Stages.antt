@@ -176,8 +176,8 @@ module _ (l : List Call) where
 
 pub field_history : {d m f : ℕ} {n : Node} → Sound n → FieldOf n.layout d m f → (l : List Call) → (Sent n m l → ⊥)
     → (gone_at (final n l).state d ≡ true) ↔ Goes (stage_at n.state d) n f l
-field_history {d} {m} {f} {n} s x [] latest = at_end n f (stage_at n.state d)
-field_history {d} {m} {f} {n} s x (c ∷ l) latest =
+field_history {d = d} {m = m} {f = f} {n = n} s x [] latest = at_end n f (stage_at n.state d)
+field_history {d = d} {m = m} {f = f} {n = n} s x (c ∷ l) latest =
     let kept : FieldOf (next n c).layout d m f = rw (kept_layout n c) x in
-    let rest = field_history (kept_sound s c) kept l (λ t. latest (t.0, there t.1)) in
+    let rest = field_history {n = next n c} (kept_sound s c) kept l (λ t. latest (t.0, there t.1)) in
     (λ t. before l latest (takes s x c) (rest.0 t), λ g. rest.1 (after l s x latest (stage_at n.state d) refl g))

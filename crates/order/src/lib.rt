@@ -1,1 +1,2 @@
 // What holds of all calls together: definitions and theorems, and no code.
+#![tactic(auto)]

@@ -1,1 +1,2 @@
 // Layout files and their verdicts, computed: rows, and no code.
+#![tactic(auto)]

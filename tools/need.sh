@@ -36,7 +36,7 @@ need_kit() {
     [ -d "$toolchain" ] || fail "the Rattle kit in $kit has no folder toolchain"
 }
 
-# The library and the listing program where `rt` leaves them, with what makes them. The code of the library is for each x86-64: with no --cpu, `rt lib` takes x86-64-v2.
+# The library and the listing program where `rt` leaves them, with what makes them. The library's code is for every x86-64; with no --cpu it is for x86-64-v2.
 library=crates/mondgurt/out/libmondgurt.a
 library_by='cd crates/mondgurt && rt lib --cpu x86-64'
 listing=crates/list/out/list

@@ -1,6 +1,6 @@
 /*
- * Mondgurt: one node of the message layer. Link target/staticlib/libmondgurt.a, which `rt staticlib mondgurt` proves and writes for x86-64 Linux;
- * docs/TARGETS.md says what there is for other processors.
+ * Mondgurt: one node of the message layer. Link crates/mondgurt/out/libmondgurt.a, which `rt lib --cpu x86-64` in crates/mondgurt proves and writes for x86-64
+ * Linux; docs/TARGETS.md says what there is for other processors.
  *
  * The life of a node: mondgurt_load reads its layout. To send, mondgurt_send takes a value, mondgurt_assemble writes the data of a frame that carries it,
  * and mondgurt_consumed is told when that frame has gone out. To receive, mondgurt_deliver takes the data of each frame that came, mondgurt_close ends the

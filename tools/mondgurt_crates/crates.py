@@ -13,7 +13,7 @@ Names = dict[str, set[str]]
 
 COMMENT = re.compile(r"(?://|--).*")
 CALLED = re.compile(r"\b([a-z]+)::")
-NAMED = re.compile(r"Rattle·([a-z]+)")
+NAMED = re.compile(r"\bRattle\.([a-z]+)")
 
 
 class Crate(NamedTuple):
@@ -47,7 +47,7 @@ def read_crate(folder: Path, known: set[str]) -> Crate:
         first_sentence(sources[0]),
         re.search(r"\bfn ", code) is not None,
         (folder / "src/main.rt").exists(),
-        "#[no_mangle]" in code,
+        "#[unsafe(no_mangle)]" in code,
         calls,
         calls | names,
     )
@@ -57,7 +57,8 @@ def read_crates(root: Path) -> list[Crate]:
     """The crates of crates.txt, in its order, each after all that it names; or Unfit, where that is not so."""
     file = root / "crates.txt"
     lines = file.read_text(encoding="utf-8").splitlines()
-    listed = dict(line.split(":") for line in lines if line and not line.startswith("#"))
+    # A static library has the word staticlib after its name.
+    listed = {head.split()[0]: rests_on for head, rests_on in (line.split(":") for line in lines if line and not line.startswith("#"))}
     crates: list[Crate] = []
     for name, rests_on in listed.items():
         crate = read_crate(root / "crates" / name, set(listed))

@@ -31,11 +31,11 @@ class Files(unittest.TestCase):
         folder = tempfile.TemporaryDirectory()
         self.addCleanup(folder.cleanup)
         self.root = Path(folder.name)
-        self.write("crates/low/src/lib.rt", "// Below all. More of it.\n#[no_mangle]\npub fn one() -> u8 {\n    1\n}\n")
+        self.write("crates/low/src/lib.rt", "// Below all. More of it.\n#[unsafe(no_mangle)]\npub fn one() -> u8 {\n    1\n}\n")
         self.write("crates/words/src/lib.rt", "// No code: only\n// words.\n")
-        self.write("crates/words/specs/Words.antt", "-- Rattle·high is only a comment here.\nuse Rattle·low.specs.Low.{one}\n")
-        self.write("crates/high/src/main.rt", "// The program.\nghost use Rattle·words.specs.Words.{two};\nfn main() {\n    low::one();\n}\n")
-        self.write("crates.txt", "# A line for each.\nlow:\nwords: low\nhigh: low words\n")
+        self.write("crates/words/specs/Words.antt", "-- Rattle.high is only a comment here.\nuse Rattle.low.specs.Low.{one}\n")
+        self.write("crates/high/src/main.rt", "// The program.\nghost use Rattle.words.specs.Words.{two};\nfn main() {\n    low::one();\n}\n")
+        self.write("crates.txt", "# A line for each.\nlow staticlib:\nwords: low\nhigh: low words\n")
 
     def write(self, name: str, content: str) -> None:
         path = self.root / name

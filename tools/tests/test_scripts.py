@@ -17,6 +17,7 @@ EVERYWHERE = "awk basename bash cat chmod cmp cp cut dirname env grep id ln mkdi
 NATIVE = platform.machine() == "x86_64"
 COMPILER = "cc" if NATIVE else "x86_64-linux-gnu-gcc"
 SETUP = "tools/setup installs it or says where to get it"
+LIST = "crates/list/out/list; `cd crates/list && rt run </dev/null` makes it"
 PACKAGES = [("cc, a C compiler, with a C library", "gcc libc6-dev"), ("c++, a C++ compiler", "g++")]
 
 
@@ -31,7 +32,7 @@ class Scripts(unittest.TestCase):
             (self.path / name).symlink_to(shutil.which(name))
         (self.path / "python3").symlink_to(sys.executable)
         for name in ("tools", "speed", "include", "samples", "crates", ".ci"):
-            shutil.copytree(ROOT / name, self.root / name, ignore=shutil.ignore_patterns("__pycache__", "proofs", "specs"))
+            shutil.copytree(ROOT / name, self.root / name, ignore=shutil.ignore_patterns("__pycache__", "proofs", "specs", "out"))
 
     def install(self, *names: str) -> None:
         """Put commands on the path that do nothing."""
@@ -50,8 +51,7 @@ class Scripts(unittest.TestCase):
         (self.root / name).write_bytes(b"\x7fELF" + bytes(14) + machine)
 
     def run_script(self, *command: str) -> tuple[int, str, str]:
-        environment = {name: value for name, value in os.environ.items() if name != "RATTLE_HOME"}
-        environment["PATH"] = str(self.path)
+        environment = {**os.environ, "PATH": str(self.path)}
         done = subprocess.run(command, cwd=self.root, env=environment, stdin=subprocess.DEVNULL, capture_output=True, text=True, timeout=60)
         return done.returncode, done.stdout, done.stderr
 
@@ -70,13 +70,18 @@ class Scripts(unittest.TestCase):
         if not NATIVE:
             self.assert_missing(words, "tools/run", "program")
 
-    def test_kit_of_another_machine(self) -> None:
-        # The kit is the folder above that of rt, or the one that RATTLE_HOME names.
+    def test_kit_without_a_toolchain(self) -> None:
+        # The kit is the folder above that of rt.
         self.install("rt")
-        words = f"has nothing for this machine, {platform.machine()}"
-        self.assert_missing(f"the Rattle kit in {self.path.parent.resolve()} {words}", "tools/module")
-        told = (1, "", f"tools/module: the Rattle kit in /none {words}\n")
-        self.assertEqual(told, self.run_script("env", "RATTLE_HOME=/none", "tools/module"))
+        self.assert_missing(f"the Rattle kit in {self.path.parent.resolve()} has no folder toolchain", "tools/module")
+
+    def test_no_emulator(self) -> None:
+        # Another machine runs a program for x86-64 by qemu and the kit's C library.
+        self.install("rt")
+        (self.path.parent / "toolchain").mkdir()
+        self.write("uname", "echo aarch64")
+        self.write_program("program", b"\x3e\x00")
+        self.assert_missing("there is no qemu-x86_64 on the path; in Debian it is in qemu-user", "tools/run", "program")
 
     def test_no_commands(self) -> None:
         self.assert_missing(f"there is no {COMPILER} on the path; {SETUP}", "tools/cc", "program.c")
@@ -87,11 +92,11 @@ class Scripts(unittest.TestCase):
 
     def test_no_build(self) -> None:
         self.install(COMPILER, "riscv64-linux-gnu-gcc", "nm", "size", "gcc", "valgrind")
-        self.assert_missing("there is no target/staticlib/libmondgurt.a; `rt staticlib mondgurt` makes it", "tools/cc", "program.c")
+        self.assert_missing("there is no crates/mondgurt/out/libmondgurt.a; `cd crates/mondgurt && rt lib --cpu x86-64` makes it", "tools/cc", "program.c")
         archive = "there is no target/archive/riscv64-linux/libmondgurt.a; `tools/archive riscv64-linux` makes it"
         self.assert_missing(archive, "tools/cc", "--target", "riscv64-linux", "program.c")
         self.assert_missing("a target is missing after --target; tools/archive lists them", "tools/cc", "--target")
-        self.assert_missing("there is no target/bin/list; `rt check list` makes it", "tools/list")
+        self.assert_missing(f"there is no {LIST}", "tools/list")
         self.assert_missing("there is no program target/two_channels", "tools/run", "target/two_channels")
         self.assert_missing("there is no program to run", "tools/run")
         self.assert_missing("there is no archive libmondgurt.a", "tools/contents", "libmondgurt.a")
@@ -155,7 +160,7 @@ class Scripts(unittest.TestCase):
         self.install("rt", "cc", "x86_64-linux-gnu-gcc")
         status, printed, told = self.run_script("tools/demo")
         self.assertEqual(1, status)
-        self.assertEqual("tools/list: there is no target/bin/list; `rt check list` makes it", told.splitlines()[0])
+        self.assertEqual(f"tools/list: there is no {LIST}", told.splitlines()[0])
         self.assertRegex(told.splitlines()[-1], "^tools/demo: failed: listing .*; the log is target/demo.log$")
         self.assertNotIn("it worked", printed)
 

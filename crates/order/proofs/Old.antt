@@ -1,8 +1,8 @@
 -- The old value is the message's value: a filter is asked with the value that the message holds, and a receive that answers 0 shows it. What a sent message
 -- holds is written by a send of it alone: an invalidate writes its validity, and a closing the states of received messages.
 -- Assumes nothing.
-use mathlib.Core.Path.{◌≡◌, refl, sym, ap, ◌∙◌}
-use mathlib.Core.Bool.{true, false, and-false}
+use mathlib.Core.Path.{◌≡◌, refl, ap, ◌∙◌}
+use mathlib.Core.Bool.{true, and-false}
 use mathlib.Core.List.{List, [], ◌∷◌}
 use Prim.Native.Nat.{ℕ, ◌<◌}
 use native.Mathlib.Decide.{ℕ_discrete, dec_lt}

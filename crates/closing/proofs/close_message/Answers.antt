@@ -6,7 +6,6 @@ use lib.Seq.{length-take-le}
 use Rattle.store.specs.declared.MessageState.{MessageState}
 use Rattle.store.specs.Node.{state_of, node_of, with_state, node_with}
 use Rattle.closing.proofs.Rounds.{closed_by}
-use borrow.Author.Rules.{rules}
 use Rattle.closing.proofs.close_message.Goals as goal
 
 pub slice_bounds-settled_state-end : goal.slice_bounds-settled_state-end

@@ -1,14 +1,12 @@
-use mathlib.Core.Path.{◌≡◌, refl, ap, ◌∙◌}
-use mathlib.Core.Logic.{⊎_elim}
-use Prim.Native.Nat.{◌-◌, ◌<◌}
+use mathlib.Core.Path.{refl, ap, ◌∙◌}
+use Prim.Native.Nat.{◌<◌}
 use native.Mathlib.Omega.{arith}
 use lib.ListN.{length}
-use borrow.Author.Tests.{not-true, not-false}
 use borrow.Author.Rules.{rules}
 use Rattle.layout.specs.declared.Counts.{Counts}
-use Rattle.store.specs.Node.{node_size, layout_of, state_of, node_of, message_count}
+use Rattle.store.specs.Node.{state_of, node_of}
 use Rattle.store.proofs.Laws.{states_length}
-use Rattle.closing.proofs.Rounds.{closed_to, close_turn, close_skip, close_end}
+use Rattle.closing.proofs.Rounds.{close_turn, close_skip, close_end}
 use borrow.Author.Tests.{eq-eqb, ne_eqb}
 use Rattle.closing.proofs.close_messages.Goals.{then-not-g, else-not-g}
 use Rattle.closing.proofs.close_messages.Goals as goal

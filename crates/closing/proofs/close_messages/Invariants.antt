@@ -1,17 +1,11 @@
 -- `closing::close_messages` meets its contract. The invariant: the first m messages are closed. Message m is closed as the node was when the closing
 -- began.
 -- Assumes nothing.
-use mathlib.Core.Path.{◌≡◌, refl, ap, ◌∙◌}
-use mathlib.Core.Logic.{⊎_elim}
-use Prim.Native.Nat.{◌-◌, ◌<◌}
-use native.Mathlib.Omega.{arith}
+use mathlib.Core.Path.{◌≡◌}
+use Prim.Native.Nat.{◌-◌}
 use lib.ListN.{length}
-use borrow.Author.Tests.{not-true, not-false}
-use borrow.Author.Rules.{rules}
-use Rattle.layout.specs.declared.Counts.{Counts}
-use Rattle.store.specs.Node.{node_size, layout_of, state_of, node_of, message_count}
-use Rattle.store.proofs.Laws.{states_length}
-use Rattle.closing.proofs.Rounds.{closed_to, close_turn, close_skip, close_end}
+use Rattle.store.specs.Node.{node_size, layout_of, node_of, message_count}
+use Rattle.closing.proofs.Rounds.{closed_to}
 use Rattle.closing.proofs.close_messages.Given as goal
 
 abbrev pub invariant-loop-m : goal.invariant-loop-m

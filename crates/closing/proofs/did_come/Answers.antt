@@ -2,7 +2,6 @@
 use mathlib.Core.Path.{refl}
 use native.Mathlib.Omega.{arith}
 use lib.ListN.{get_or-eq_default}
-use borrow.Author.Rules.{rules}
 use Rattle.store.specs.Node.{state_of, no_delivery}
 use Rattle.store.proofs.Laws.{deliveries_length}
 use Rattle.closing.specs.Closing.{came}

@@ -1,36 +1,18 @@
-use mathlib.Core.Path.{◌≡◌, ap, ap₂, sym, ◌∙◌}
+use mathlib.Core.Path.{ap, ap₂, sym, ◌∙◌}
 use mathlib.Core.List.{List, ◌++◌, append-nil}
-use mathlib.Core.Logic.{⊎_elim}
-use Prim.Native.Nat.{◌+◌, ◌-◌, ◌<◌, ◌≤◌}
+use Prim.Native.Nat.{◌<◌}
 use native.Mathlib.Omega.{arith}
 use lib.IntN.{ℤ}
-use lib.ListN.{length, take, length-set}
+use lib.ListN.{take, length-set}
 use mir.Syntax.{w64}
 use mir.ValLaws.{to_z-of_z}
 use borrow.Author.Rules.{rules}
 use Rattle.whole.proofs.Loops.{taken_more}
-use Rattle.store.specs.Node.{layout_of, state_of, node_of}
-use Rattle.own.specs.declared.Owner.{Owner}
+use Rattle.store.specs.Node.{state_of, node_of}
 use Rattle.own.specs.declared.Places.{Places}
-use Rattle.own.specs.Own.{first_place, end_place}
-use Rattle.closing.specs.Closing.{came, status_set, value_in, instances, none_came}
+use Rattle.closing.specs.Closing.{came, status_set, value_in}
 use Rattle.own.proofs.Ahead.{inside}
-use Rattle.closing.proofs.Rounds.{
-  came_known,
-  instances_ahead,
-  instances_begin,
-  instances_turn,
-  instances_unset,
-  instances_absent,
-  instances_other,
-  instances_end,
-  none_ahead,
-  none_begin,
-  none_turn,
-  none_absent,
-  none_other,
-  none_end,
-}
+use Rattle.closing.proofs.Rounds.{came_known, instances_begin, instances_turn, instances_unset, instances_absent, instances_other, instances_end, none_begin, none_turn, none_absent, none_other, none_end}
 use Rattle.closing.proofs.gather.Goals.{then-owns+then-did_come+then-is_status_set, then-owns+then-did_come+else-is_status_set, then-owns+else-did_come, else-owns}
 use Rattle.closing.proofs.gather.Goals as goal
 

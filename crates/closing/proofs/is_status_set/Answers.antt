@@ -4,7 +4,6 @@ use mathlib.Core.Path.{◌≡◌, refl}
 use mathlib.Core.Bool.{true, false}
 use lib.Dec.{eqb}
 use borrow.Author.Tests.{not-true, not-false}
-use borrow.Author.Rules.{rules}
 use Rattle.message.specs.Fields.{status_places}
 use Rattle.closing.specs.Closing.{status_set}
 use Rattle.closing.proofs.is_status_set.Goals as goal

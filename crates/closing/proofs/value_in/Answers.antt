@@ -9,7 +9,6 @@ use lib.ListN.{length, take}
 use lib.Seq.{length-take-le}
 use mir.Syntax.{w64}
 use mir.ValLaws.{to_z-of_z}
-use borrow.Author.Rules.{rules}
 use Rattle.packing.specs.Places.{places_in, unpacked}
 use Rattle.store.specs.declared.Frame.{Frame}
 use Rattle.store.specs.Node.{layout_of, node_of, frame_at, data_at}

@@ -3,7 +3,6 @@
 -- Assumes nothing.
 use mathlib.Core.Path.{sym, ◌∙◌}
 use native.Mathlib.Omega.{arith}
-use borrow.Author.Rules.{rules}
 use Rattle.layout.proofs.Accepted.{accepted}
 use Rattle.layout.proofs.Node.{few_frames, few_messages}
 use Rattle.layout.proofs.Refused.{refused_record}

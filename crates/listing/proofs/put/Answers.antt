@@ -1,6 +1,5 @@
 -- One byte, stored at its place: this is the law of one byte.
 -- Assumes nothing.
-use borrow.Author.Rules.{rules}
 use Rattle.listing.proofs.Puts.{put_one}
 use Rattle.listing.proofs.put.Goals as goal
 

@@ -1,7 +1,6 @@
 -- The byte of a refusal where one is given, and nothing where none is: the code's test is the definition's.
 -- Assumes nothing.
 use native.Mathlib.Omega.{arith}
-use borrow.Author.Rules.{rules}
 use borrow.Author.Tests.{eq-eqb, ne_eqb}
 use Rattle.listing.specs.Text.{byte_text}
 use Rattle.listing.proofs.Puts.{put_none, put_both, put_within}

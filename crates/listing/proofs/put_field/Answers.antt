@@ -1,6 +1,5 @@
 -- The line of field d: what `record` reads is the field's record and its message's, of which the line is made.
 -- Assumes nothing.
-use borrow.Author.Rules.{rules}
 use Rattle.listing.specs.Text.{line_at}
 use Rattle.listing.proofs.put_field.Goals as goal
 

@@ -1,7 +1,6 @@
 -- A line: its parts are written one after the other, and the law of two texts joins them.
 -- Assumes nothing.
 use mathlib.Core.List.{append_assoc}
-use borrow.Author.Rules.{rules}
 use Rattle.listing.specs.Text.{line_of}
 use Rattle.listing.proofs.Puts.{put_both}
 use Rattle.listing.proofs.put_line.Goals as goal

@@ -1,10 +1,7 @@
 use mathlib.Core.Path.{◌≡◌, refl}
-use Prim.Native.Nat.{◌*◌, ◌-◌, ◌≤◌}
 use native.Mathlib.Numerals.{add-one}
 use native.Mathlib.Omega.{arith}
-use lib.ListN.{length}
 use borrow.Author.Rules.{rules}
-use Rattle.listing.specs.Put.{Put}
 use Rattle.listing.specs.Text.{lines}
 use Rattle.listing.proofs.Puts.{put_none, put_both, put_within}
 use Rattle.listing.proofs.put_lines.Goals as goal

@@ -1,14 +1,10 @@
 -- A line for each field. The invariant: the lines of the fields below d are written, each of at most 20 bytes. The measure: the fields left.
 -- Assumes nothing.
-use mathlib.Core.Path.{◌≡◌, refl}
+use mathlib.Core.Path.{◌≡◌}
 use Prim.Native.Nat.{◌*◌, ◌-◌, ◌≤◌}
-use native.Mathlib.Numerals.{add-one}
-use native.Mathlib.Omega.{arith}
 use lib.ListN.{length}
-use borrow.Author.Rules.{rules}
 use Rattle.listing.specs.Put.{Put}
 use Rattle.listing.specs.Text.{lines}
-use Rattle.listing.proofs.Puts.{put_none, put_both, put_within}
 use Rattle.listing.proofs.put_lines.Given as goal
 
 abbrev pub invariant-loop-d : goal.invariant-loop-d

@@ -1,7 +1,6 @@
 -- A number of one, two or three digits: in each case its decimal text is the digits that are written one after the other.
 -- Assumes nothing.
 use native.Mathlib.Omega.{arith}
-use borrow.Author.Rules.{rules}
 use Rattle.listing.proofs.Decimal.{one_digit, two_digits, three_digits}
 use Rattle.listing.proofs.Puts.{put_both, put_within}
 use Rattle.listing.proofs.put_number.Goals as goal

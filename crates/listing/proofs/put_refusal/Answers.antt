@@ -1,6 +1,5 @@
 -- A refusal: its words and numbers are written one after the other, and the law of two texts joins them.
 -- Assumes nothing.
-use borrow.Author.Rules.{rules}
 use Rattle.listing.specs.Text.{refusal_text}
 use Rattle.listing.proofs.Puts.{put_both}
 use Rattle.listing.proofs.put_refusal.Goals as goal

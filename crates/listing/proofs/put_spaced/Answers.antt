@@ -1,6 +1,5 @@
 -- A number and then a space: the law of two texts one after the other.
 -- Assumes nothing.
-use borrow.Author.Rules.{rules}
 use Rattle.listing.proofs.Puts.{put_both}
 use Rattle.listing.proofs.put_spaced.Goals as goal
 

@@ -1,7 +1,6 @@
 -- The status bit's place where it is present, and `-` where it is not: the code's test is the definition's.
 -- Assumes nothing.
 use native.Mathlib.Omega.{arith}
-use borrow.Author.Rules.{rules}
 use borrow.Author.Tests.{eq-eqb, ne_eqb}
 use Rattle.listing.specs.Text.{status_text}
 use Rattle.listing.proofs.Puts.{put_within}

@@ -1,5 +1,4 @@
 -- `message::agree_by` meets its contract, by whether the message is a float. Assumes nothing.
-use borrow.Author.Rules.{rules}
 use borrow.Author.Tests.{eq-eqb, ne_eqb}
 use Rattle.message.specs.Messages.{agreed_by}
 use Rattle.message.proofs.agree_by.Goals as goal

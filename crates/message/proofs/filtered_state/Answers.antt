@@ -1,10 +1,9 @@
 -- `message::filtered_state` meets its contract: status 0 if the value passed, and 21 if not. Assumes nothing.
 use mathlib.Core.Path.{◌≡◌, ◌∙◌}
-use mathlib.Core.Logic.{inl, inr, ⊎_elim}
+use mathlib.Core.Logic.{inl, inr}
 use mir.Syntax.{w64}
 use mir.Val.{to_z, of_z}
 use mir.ValLaws.{to_z-of_z}
-use borrow.Author.Rules.{rules}
 use Rattle.message.specs.Messages.{passes_now, filtered}
 use Rattle.message.proofs.Passed.{decided}
 use Rattle.message.proofs.filtered_state.Goals.{Joined-g-ne0, then-g-ne0, else-g-ne0}

@@ -1,7 +1,6 @@
 -- `message::held_if` meets its contract: what is passed on as its bits is read back, since it fits. Assumes nothing.
 use mir.Syntax.{w64}
 use mir.ValLaws.{to_z-of_z}
-use borrow.Author.Rules.{rules}
 use Rattle.message.proofs.held_if.Goals as goal
 
 pub returns-then-passed : goal.returns-then-passed

@@ -1,12 +1,11 @@
 -- `message::offered_state` meets its contract: the message is valid just if the value passed. Assumes nothing.
 use mathlib.Core.Path.{◌≡◌, refl, ◌∙◌}
 use mathlib.Core.Bool.{Bool, true, false, cond}
-use mathlib.Core.Logic.{inl, inr, ⊎_elim}
+use mathlib.Core.Logic.{inl, inr}
 use Prim.Native.Nat.{ℕ}
 use mir.Syntax.{w64}
 use mir.Val.{to_z, of_z}
 use mir.ValLaws.{to_z-of_z}
-use borrow.Author.Rules.{rules}
 use Rattle.whole.proofs.Integers.{as_number}
 use Rattle.packing.specs.Values.{pattern_of}
 use Rattle.store.specs.declared.MessageState.{MessageState}

@@ -1,6 +1,5 @@
 -- `message::write_field` meets its contract: the held value's bits and then, where the field has one, the status bit; packing keeps the length.
 -- Assumes nothing.
-use borrow.Author.Rules.{rules}
 use borrow.Author.Tests.{eq-eqb, ne_eqb}
 use Rattle.whole.proofs.Integers.{as_number}
 use Rattle.packing.specs.Places.{packed}

@@ -1,6 +1,5 @@
 -- `mondgurt::mondgurt_send` meets its contract: the value is read back from its bits. Assumes nothing.
 use mathlib.Core.Path.{refl}
-use borrow.Author.Rules.{rules}
 use mir.Syntax.{w64}
 use mir.ValLaws.{to_z-of_z}
 use Rattle.mondgurt.proofs.mondgurt_send.Goals as goal

@@ -1,16 +1,14 @@
 use mathlib.Core.Path.{◌≡◌, ap}
 use mathlib.Core.Bool.{not}
-use mathlib.Core.Logic.{⊎_elim}
-use Prim.Native.Nat.{◌<◌, ◌-◌}
+use Prim.Native.Nat.{◌<◌}
 use native.Mathlib.Omega.{arith}
 use borrow.Author.Rules.{rules}
 use Rattle.store.specs.Node.{layout_of, state_of}
 use Rattle.own.specs.declared.Owner.{Owner}
 use Rattle.own.specs.declared.Places.{Places}
-use Rattle.own.specs.Own.{end_place, fields_of}
-use Rattle.node.specs.Calls.{all_invalid}
+use Rattle.own.specs.Own.{end_place}
 use Rattle.own.proofs.Ahead.{inside}
-use Rattle.node.proofs.Turns.{invalid_ahead, invalid_begin, invalid_turn, invalid_skip, invalid_stop, invalid_end}
+use Rattle.node.proofs.Turns.{invalid_begin, invalid_turn, invalid_skip, invalid_stop, invalid_end}
 use Rattle.node.proofs.all_invalid.Goals.{At-loop-i, else-owns, then-owns+else-not-s}
 use Rattle.node.proofs.all_invalid.Goals as goal
 

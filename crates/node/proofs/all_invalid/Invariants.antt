@@ -1,19 +1,13 @@
 -- `node::all_invalid` meets its contract. The invariant: the answer is what is left of it for the cells that are ahead, where `some` says that the
 -- frame has a field behind.
 -- Assumes nothing.
-use mathlib.Core.Path.{◌≡◌, ap}
-use mathlib.Core.Bool.{not}
-use mathlib.Core.Logic.{⊎_elim}
-use Prim.Native.Nat.{◌<◌, ◌-◌}
-use native.Mathlib.Omega.{arith}
-use borrow.Author.Rules.{rules}
+use mathlib.Core.Path.{◌≡◌}
+use Prim.Native.Nat.{◌-◌}
 use Rattle.store.specs.Node.{layout_of, state_of}
 use Rattle.own.specs.declared.Owner.{Owner}
-use Rattle.own.specs.declared.Places.{Places}
-use Rattle.own.specs.Own.{end_place, fields_of}
+use Rattle.own.specs.Own.{fields_of}
 use Rattle.node.specs.Calls.{all_invalid}
-use Rattle.own.proofs.Ahead.{inside}
-use Rattle.node.proofs.Turns.{invalid_ahead, invalid_begin, invalid_turn, invalid_skip, invalid_stop, invalid_end}
+use Rattle.node.proofs.Turns.{invalid_ahead}
 use Rattle.node.proofs.all_invalid.Given as goal
 
 abbrev pub invariant-loop-i : goal.invariant-loop-i

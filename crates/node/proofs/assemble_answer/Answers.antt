@@ -3,7 +3,6 @@ use mathlib.Core.Path.{◌≡◌, sym, ◌∙◌}
 use Prim.Native.Nat.{◌<◌}
 use native.Mathlib.Omega.{arith}
 use lib.ListN.{length}
-use borrow.Author.Rules.{rules}
 use Rattle.store.specs.Node.{node_size, layout_of}
 use Rattle.node.specs.Calls.{assemble_answer}
 use Rattle.node.proofs.Answers.{counted}

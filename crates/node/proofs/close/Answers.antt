@@ -1,7 +1,6 @@
 -- `node::close` meets its contract: the round is closed, and the answer is 0.
 -- Assumes nothing.
 use mathlib.Core.Path.{refl}
-use borrow.Author.Rules.{rules}
 use Rattle.store.specs.Node.{node_of}
 use Rattle.closing.specs.Closing.{close_of}
 use Rattle.node.proofs.Outcomes.{done}

@@ -2,7 +2,6 @@
 use mathlib.Core.Path.{◌≡◌}
 use Prim.Native.Nat.{◌<◌}
 use lib.ListN.{length}
-use borrow.Author.Rules.{rules}
 use Rattle.store.specs.Node.{node_size, layout_of}
 use Rattle.node.specs.Calls.{consumed_answer}
 use Rattle.node.proofs.Answers.{counted}

@@ -5,7 +5,6 @@ use Prim.Native.Nat.{◌<◌}
 use lib.ListN.{length}
 use lib.Dec.{eqb, ltb}
 use borrow.Author.Tests.{eq-eqb, ne_eqb, not-true, not-false}
-use borrow.Author.Rules.{rules}
 use Rattle.store.specs.Node.{node_size, layout_of, frame_count}
 use Rattle.node.specs.Calls.{deliver_answer}
 use Rattle.node.proofs.Answers.{counted}

@@ -1,6 +1,5 @@
 -- `node::is_suppressed` meets its contract: its two tests in the code's order. Assumes nothing.
 use mathlib.Core.Bool.{Bool}
-use borrow.Author.Rules.{rules}
 use borrow.Author.Tests.{not-true, not-false}
 use Rattle.store.specs.Node.{is_event, layout_of, frame_at}
 use Rattle.node.specs.Calls.{suppressed}

@@ -2,7 +2,6 @@
 use mathlib.Core.Path.{sym, ◌∙◌}
 use native.Mathlib.Omega.{arith}
 use lib.ListN.{get_or-eq_default}
-use borrow.Author.Rules.{rules}
 use Rattle.store.specs.Node.{layout_of, no_message}
 use Rattle.store.proofs.Laws.{messages_length}
 use Rattle.node.proofs.its_message.Goals as goal

@@ -2,7 +2,6 @@
 use mathlib.Core.Path.{sym, ◌∙◌}
 use native.Mathlib.Omega.{arith}
 use lib.ListN.{get_or-eq_default}
-use borrow.Author.Rules.{rules}
 use Rattle.store.specs.Node.{state_of, no_state}
 use Rattle.store.proofs.Laws.{states_length}
 use Rattle.node.proofs.its_state.Goals as goal

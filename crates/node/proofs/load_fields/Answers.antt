@@ -1,19 +1,17 @@
 use mathlib.Core.Path.{◌≡◌, refl, ap, sym, ◌∙◌}
-use mathlib.Core.List.{map}
-use mathlib.Core.Logic.{⊎_elim}
-use Prim.Native.Nat.{◌<◌, ◌-◌}
+use Prim.Native.Nat.{◌<◌}
 use native.Mathlib.Omega.{arith}
 use lib.ListN.{length}
 use borrow.Author.Rules.{rules}
-use Rattle.store.specs.Node.{Node, node_size, layout_of, state_of, node_of, laid_at, node_with}
+use Rattle.store.specs.Node.{Node, node_size, layout_of, state_of, node_of, node_with}
 use Rattle.store.proofs.Laws.{stage_stored}
 use Rattle.message.specs.declared.Change.{Change}
 use Rattle.own.specs.declared.Owner.{Owner}
 use Rattle.own.specs.declared.Places.{Places}
-use Rattle.own.specs.Own.{end_place, fields_of}
-use Rattle.node.specs.Calls.{moved, written}
-use Rattle.own.proofs.Ahead.{ahead, first_ahead, last_ahead, inside, own_ahead, other_ahead}
-use Rattle.node.proofs.Turns.{after_stored, moved_ahead, move_begin, move_turn, move_skip, move_end}
+use Rattle.own.specs.Own.{end_place}
+use Rattle.node.specs.Calls.{written}
+use Rattle.own.proofs.Ahead.{first_ahead, last_ahead, inside, own_ahead, other_ahead}
+use Rattle.node.proofs.Turns.{after_stored, move_begin, move_turn, move_skip, move_end}
 use Rattle.node.proofs.load_fields.Goals.{At-loop-i, Then-owns, else-owns, then-owns}
 use Rattle.node.proofs.load_fields.Goals as goal
 

@@ -2,22 +2,17 @@
 -- buffer as it was; and the memory's node, with the cells ahead moved on, is the node at entry with all of the frame's moved on. So the layout and
 -- the messages' states are as they were.
 -- Assumes nothing.
-use mathlib.Core.Path.{◌≡◌, refl, ap, sym, ◌∙◌}
+use mathlib.Core.Path.{◌≡◌}
 use mathlib.Core.List.{map}
-use mathlib.Core.Logic.{⊎_elim}
-use Prim.Native.Nat.{◌<◌, ◌-◌}
-use native.Mathlib.Omega.{arith}
+use Prim.Native.Nat.{◌-◌}
 use lib.ListN.{length}
-use borrow.Author.Rules.{rules}
-use Rattle.store.specs.Node.{Node, node_size, layout_of, state_of, node_of, laid_at, node_with}
-use Rattle.store.proofs.Laws.{stage_stored}
+use Rattle.store.specs.Node.{node_size, layout_of, node_of, laid_at, node_with}
 use Rattle.message.specs.declared.Change.{Change}
 use Rattle.own.specs.declared.Owner.{Owner}
-use Rattle.own.specs.declared.Places.{Places}
-use Rattle.own.specs.Own.{end_place, fields_of}
+use Rattle.own.specs.Own.{fields_of}
 use Rattle.node.specs.Calls.{moved, written}
-use Rattle.own.proofs.Ahead.{ahead, first_ahead, last_ahead, inside, own_ahead, other_ahead}
-use Rattle.node.proofs.Turns.{after_stored, moved_ahead, move_begin, move_turn, move_skip, move_end}
+use Rattle.own.proofs.Ahead.{ahead}
+use Rattle.node.proofs.Turns.{moved_ahead}
 use Rattle.node.proofs.load_fields.Given as goal
 
 abbrev pub invariant-loop-i : goal.invariant-loop-i

@@ -1,16 +1,13 @@
 use mathlib.Core.Path.{◌≡◌, ap, sym, ◌∙◌}
-use mathlib.Core.Logic.{⊎_elim}
-use Prim.Native.Nat.{◌<◌, ◌-◌}
+use Prim.Native.Nat.{◌<◌}
 use native.Mathlib.Omega.{arith}
-use lib.ListN.{length}
 use borrow.Author.Rules.{rules}
-use Rattle.store.specs.Node.{Node, node_size, layout_of, node_of, node_with}
+use Rattle.store.specs.Node.{Node, layout_of, node_of, node_with}
 use Rattle.store.proofs.Laws.{stage_stored}
 use Rattle.own.specs.declared.Places.{Places}
 use Rattle.own.specs.Own.{end_place}
-use Rattle.node.specs.Calls.{moved}
 use Rattle.own.proofs.Ahead.{end_few, inside}
-use Rattle.node.proofs.Turns.{after_stored, moved_ahead, move_begin, move_turn, move_skip, move_end}
+use Rattle.node.proofs.Turns.{after_stored, move_begin, move_turn, move_skip, move_end}
 use Rattle.node.proofs.move_fields.Goals.{At-loop-i, else-owns, then-owns}
 use Rattle.node.proofs.move_fields.Goals as goal
 

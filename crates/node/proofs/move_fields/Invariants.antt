@@ -1,19 +1,12 @@
 -- `node::move_fields` meets its contract. The invariant: the memory's node, with the owner's cells moved on that are still ahead, is the node at
 -- entry with all of them moved on; so the layout is as it was.
 -- Assumes nothing.
-use mathlib.Core.Path.{◌≡◌, ap, sym, ◌∙◌}
-use mathlib.Core.Logic.{⊎_elim}
-use Prim.Native.Nat.{◌<◌, ◌-◌}
-use native.Mathlib.Omega.{arith}
+use mathlib.Core.Path.{◌≡◌}
+use Prim.Native.Nat.{◌-◌}
 use lib.ListN.{length}
-use borrow.Author.Rules.{rules}
-use Rattle.store.specs.Node.{Node, node_size, layout_of, node_of, node_with}
-use Rattle.store.proofs.Laws.{stage_stored}
-use Rattle.own.specs.declared.Places.{Places}
-use Rattle.own.specs.Own.{end_place}
+use Rattle.store.specs.Node.{node_size, node_of, node_with}
 use Rattle.node.specs.Calls.{moved}
-use Rattle.own.proofs.Ahead.{end_few, inside}
-use Rattle.node.proofs.Turns.{after_stored, moved_ahead, move_begin, move_turn, move_skip, move_end}
+use Rattle.node.proofs.Turns.{moved_ahead}
 use Rattle.node.proofs.move_fields.Given as goal
 
 abbrev pub invariant-loop-i : goal.invariant-loop-i

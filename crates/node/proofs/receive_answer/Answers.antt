@@ -5,7 +5,6 @@ use Prim.Native.Nat.{◌<◌}
 use lib.ListN.{length}
 use lib.Dec.{ltb}
 use borrow.Author.Tests.{eq-eqb, ne_eqb}
-use borrow.Author.Rules.{rules}
 use Rattle.store.specs.Node.{node_size, layout_of, message_count}
 use Rattle.node.specs.Calls.{receive_answer}
 use Rattle.node.proofs.Answers.{counted}

@@ -4,7 +4,6 @@ use Prim.Native.Nat.{◌<◌}
 use lib.ListN.{length}
 use mir.Syntax.{w64}
 use mir.ValLaws.{to_z-of_z}
-use borrow.Author.Rules.{rules}
 use Rattle.store.specs.Node.{node_size, layout_of}
 use Rattle.node.specs.Calls.{send_answer}
 use Rattle.node.proofs.Answers.{counted}

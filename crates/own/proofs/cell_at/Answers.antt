@@ -1,6 +1,5 @@
 -- `own::cell_at` meets its contract: of a message the place itself, and of a frame what the index has there. Assumes nothing.
 use mathlib.Core.Path.{refl}
-use borrow.Author.Rules.{rules}
 use Rattle.own.proofs.cell_at.Goals as goal
 
 pub returns-in-Message : goal.returns-in-Message

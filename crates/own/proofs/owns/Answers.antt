@@ -1,7 +1,6 @@
 -- `own::owns` meets its contract: a cell that a message's place gives is one of the memory's, and of a frame's place that is tested; then the name is.
 -- Assumes nothing.
 use mathlib.Core.Path.{refl}
-use borrow.Author.Rules.{rules}
 use borrow.Author.Tests.{lt-ltb, le-ltb}
 use Rattle.own.specs.Own.{owns}
 use Rattle.own.proofs.owns.Goals as goal

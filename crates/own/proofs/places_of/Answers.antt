@@ -1,6 +1,5 @@
 -- `own::places_of` meets its contract, for a message and for a frame. Assumes nothing.
 use native.Mathlib.Omega.{arith}
-use borrow.Author.Rules.{rules}
 use Rattle.own.proofs.places_of.Goals as goal
 
 pub message_at-g-requires : goal.message_at-g-requires

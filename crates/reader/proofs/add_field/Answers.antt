@@ -3,7 +3,6 @@
 use mathlib.Core.Path.{◌≡◌, ap, sym, ◌∙◌}
 use native.Mathlib.Omega.{arith}
 use lib.ListN.{length}
-use borrow.Author.Rules.{rules}
 use Rattle.record.specs.Records.{byte_at}
 use Rattle.used.proofs.Rows.{added_bits}
 use Rattle.record.proofs.Own.{byte_read, field_read}

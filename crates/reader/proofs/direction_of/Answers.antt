@@ -1,7 +1,6 @@
 -- The direction stands in its byte.
 -- Assumes nothing.
 use Rattle.record.specs.Records.{message_at}
-use borrow.Author.Rules.{rules}
 use Rattle.reader.proofs.direction_of.Goals as goal
 
 pub returns : goal.returns

@@ -1,7 +1,6 @@
 -- The filter stands in its byte.
 -- Assumes nothing.
 use Rattle.record.specs.Records.{message_at}
-use borrow.Author.Rules.{rules}
 use Rattle.reader.proofs.filter_of.Goals as goal
 
 pub returns : goal.returns

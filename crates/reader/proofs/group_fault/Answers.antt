@@ -7,7 +7,6 @@ use borrow.Author.Tests.{not-true, not-false, eqb-true}
 use Rattle.record.specs.Records.{byte_at, is_field}
 use Rattle.record.proofs.Own.{byte_read, field_read}
 use Rattle.layout.specs.Verdict.{group_fault}
-use borrow.Author.Rules.{rules}
 use Rattle.reader.proofs.group_fault.Goals as goal
 
 pub returns-then-not-byte : goal.returns-then-not-byte

@@ -1,13 +1,12 @@
 use mathlib.Core.Path.{◌≡◌, refl, sym, ap, ◌∙◌}
 use mathlib.Core.Bool.{false}
-use Prim.Native.Nat.{◌≤◌, ◌-◌}
 use native.Mathlib.Omega.{arith}
 use lib.ListN.{length}
 use borrow.Author.Rules.{rules}
 use Rattle.record.specs.Numbers.{any_below}
 use Rattle.layout.specs.Counts.{counts_before}
 use Rattle.layout.specs.Verdict.{fails_at, judged}
-use Rattle.reader.specs.Carried.{Lacks, Carried}
+use Rattle.reader.specs.Carried.{Lacks}
 use Rattle.reader.proofs.Reading.{counts_few, passed, refused}
 use Rattle.reader.proofs.Carried.{at_hand_few, lacks_none, completed}
 use Rattle.reader.proofs.Bits.{carried_none, fitting, carried_next, lacks_next}

@@ -1,7 +1,6 @@
 -- The width is that of the message.
 -- Assumes nothing.
 use mathlib.Core.Path.{refl}
-use borrow.Author.Rules.{rules}
 use Rattle.reader.proofs.message_run.Goals as goal
 
 pub returns : goal.returns

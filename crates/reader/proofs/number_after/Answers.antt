@@ -6,7 +6,6 @@ use borrow.Author.Tests.{ne_eqb}
 use Rattle.record.specs.Records.{is_field}
 use Rattle.record.proofs.Own.{byte_read}
 use Rattle.reader.specs.Carried.{number_after}
-use borrow.Author.Rules.{rules}
 use Rattle.reader.proofs.number_after.Goals as goal
 
 pub returns-then-byte-eq3 : goal.returns-then-byte-eq3

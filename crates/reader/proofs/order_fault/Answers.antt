@@ -2,7 +2,6 @@
 -- Assumes nothing.
 use mathlib.Core.Path.{refl}
 use native.Mathlib.Omega.{arith}
-use borrow.Author.Rules.{rules}
 use Rattle.record.specs.Records.{is_frame, is_message, is_field}
 use Rattle.record.proofs.Own.{byte_read, field_read}
 use Rattle.layout.specs.Verdict.{order_fault}

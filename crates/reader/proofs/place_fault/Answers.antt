@@ -15,7 +15,6 @@ use Rattle.record.proofs.Own.{byte_read, field_read}
 use Rattle.layout.specs.Counts.{frame_numbered, message_numbered}
 use Rattle.layout.specs.Verdict.{place_fault}
 use Rattle.reader.proofs.Bits.{message_in_row, status_in_row, clashes}
-use borrow.Author.Rules.{rules}
 use Rattle.reader.proofs.place_fault.Goals.{After-runs_meet, Else-not-byte, Else-past_end-runs_meet}
 use Rattle.reader.proofs.place_fault.Goals as goal
 

@@ -6,7 +6,6 @@ use Prim.Native.Nat.{◌%◌}
 use native.Mathlib.Omega.{arith}
 use lib.Dec.{eqb, ltb}
 use lib.ListN.{length}
-use borrow.Author.Rules.{rules}
 use borrow.Author.Tests.{ltb-false}
 use Rattle.record.proofs.Tests.{or_clear}
 use Rattle.layout.specs.Verdict.{size_fault, verdict}

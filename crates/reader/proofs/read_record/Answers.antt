@@ -4,7 +4,6 @@
 use mathlib.Core.Path.{◌≡◌, refl, sym, ◌∙◌}
 use mathlib.Core.Bool.{false}
 use native.Mathlib.Omega.{arith}
-use borrow.Author.Rules.{rules}
 use Rattle.record.proofs.Tests.{any_clear}
 use Rattle.record.proofs.Own.{record_read}
 use Rattle.ranges.specs.Ranges.{range_fault}

@@ -5,7 +5,6 @@ use native.Mathlib.Omega.{arith}
 use Rattle.record.specs.Records.{is_field}
 use Rattle.record.proofs.Own.{byte_read, field_read}
 use Rattle.layout.specs.Verdict.{ref_fault}
-use borrow.Author.Rules.{rules}
 use Rattle.reader.proofs.ref_fault.Goals as goal
 
 pub returns : goal.returns

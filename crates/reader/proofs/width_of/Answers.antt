@@ -1,7 +1,6 @@
 -- The width stands in its byte.
 -- Assumes nothing.
 use Rattle.record.specs.Records.{message_at}
-use borrow.Author.Rules.{rules}
 use Rattle.reader.proofs.width_of.Goals as goal
 
 pub returns : goal.returns

@@ -2,7 +2,6 @@
 -- Assumes nothing.
 use mathlib.Core.Path.{ap, sym, ◌∙◌}
 use Prim.Native.Nat.{ℕ, ◌+◌, ◌*◌}
-use borrow.Author.Rules.{rules}
 use Rattle.store.specs.Memory.{part}
 use Rattle.store.specs.Node.{deliveries_at}
 use Rattle.store.proofs.Parts.{part_lent}

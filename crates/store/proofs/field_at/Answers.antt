@@ -1,6 +1,5 @@
 -- `store::field_at` meets its contract: what the layout says of the field is read, and its stage from the byte where it lies.
 -- Assumes nothing.
-use borrow.Author.Rules.{rules}
 use Rattle.store.proofs.Places.{stage_read}
 use Rattle.store.proofs.field_at.Goals as goal
 

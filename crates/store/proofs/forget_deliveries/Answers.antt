@@ -8,7 +8,6 @@ use lib.ListN.{length, replicate}
 use Rattle.store.specs.Node.{deliveries_at, node_of}
 use Rattle.store.proofs.Parts.{length_part, part_back, part_lent}
 use Rattle.store.proofs.Forgotten.{forgotten}
-use borrow.Author.Rules.{rules}
 use Rattle.store.proofs.forget_deliveries.Goals as goal
 
 pub returns : goal.returns

@@ -1,5 +1,4 @@
 -- `store::has_frame` meets its contract: the first byte of the memory is the number of frames. Assumes nothing.
-use borrow.Author.Rules.{rules}
 use Rattle.store.specs.Node.{layout_of}
 use Rattle.store.proofs.has_frame.Goals as goal
 

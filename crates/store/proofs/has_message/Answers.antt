@@ -1,5 +1,4 @@
 -- `store::has_message` meets its contract: the second byte of the memory is the number of messages. Assumes nothing.
-use borrow.Author.Rules.{rules}
 use Rattle.store.specs.Node.{layout_of}
 use Rattle.store.proofs.has_message.Goals as goal
 

@@ -1,7 +1,6 @@
 -- `store::listed_at` meets its contract: a cell of the index is one byte, and it is read where it lies.
 -- Assumes nothing.
 use mathlib.Core.Path.{sym}
-use borrow.Author.Rules.{rules}
 use Rattle.store.proofs.Places.{listed_read}
 use Rattle.store.proofs.listed_at.Goals as goal
 

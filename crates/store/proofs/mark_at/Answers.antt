@@ -1,7 +1,6 @@
 -- `store::mark_at` meets its contract: the first byte of the delivery's cell is read where it lies.
 -- Assumes nothing.
 use mathlib.Core.Path.{sym}
-use borrow.Author.Rules.{rules}
 use Rattle.store.proofs.Places.{mark_read}
 use Rattle.store.proofs.mark_at.Goals as goal
 

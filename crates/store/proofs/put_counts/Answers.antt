@@ -4,7 +4,6 @@ use mathlib.Core.Path.{ap, ◌∙◌}
 use mathlib.Core.List.{[], ◌∷◌}
 use native.Mathlib.Omega.{arith}
 use lib.Seq.{sets-eq}
-use borrow.Author.Rules.{rules}
 use Rattle.store.specs.Node.{node_of}
 use Rattle.store.proofs.Places.{numbers_written}
 use Rattle.store.proofs.put_counts.Goals as goal

@@ -6,7 +6,6 @@ use Prim.Native.Nat.{ℕ, ◌+◌, ◌*◌}
 use native.Mathlib.Omega.{arith}
 use lib.ListN.{length}
 use lib.Seq.{paste, length-paste}
-use borrow.Author.Rules.{rules}
 use Rattle.store.specs.Memory.{part, overwritten}
 use Rattle.store.specs.Node.{deliveries_at}
 use Rattle.store.proofs.Parts.{part_lent, part_back, part_within, length_part, length_over, over_within}

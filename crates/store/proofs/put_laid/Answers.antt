@@ -1,7 +1,6 @@
 -- `store::put_laid` meets its contract: the cell is written where it lies, and what is stored there is read back.
 -- Assumes nothing.
 use Prim.Native.Nat.{◌+◌, ◌*◌}
-use borrow.Author.Rules.{rules}
 use Rattle.store.specs.Node.{fields_at, laid_bytes}
 use Rattle.store.proofs.Parts.{part_back}
 use Rattle.store.proofs.Cells.{laid_size, laid_decoded}

@@ -1,6 +1,5 @@
 -- `store::put_listed` meets its contract: a cell of the index is one byte, and it is written where it lies.
 -- Assumes nothing.
-use borrow.Author.Rules.{rules}
 use Rattle.store.proofs.Places.{listed_written}
 use Rattle.store.proofs.put_listed.Goals as goal
 

@@ -5,7 +5,6 @@ use mathlib.Core.List.{List}
 use Prim.Native.Nat.{ℕ, ◌+◌, ◌*◌}
 use native.Mathlib.Omega.{arith}
 use lib.ListN.{length, set, length-set}
-use borrow.Author.Rules.{rules}
 use Rattle.store.specs.Memory.{part}
 use Rattle.store.specs.Node.{deliveries_at}
 use Rattle.store.proofs.Parts.{first_within, length_part}

@@ -1,6 +1,5 @@
 -- `store::put_stage` meets its contract: a stage is one byte, which is written where it lies, and the stage is read back from it.
 -- Assumes nothing.
-use borrow.Author.Rules.{rules}
 use Rattle.store.specs.Node.{code_of}
 use Rattle.store.proofs.Places.{stage_written}
 use Rattle.store.proofs.put_stage.Goals as goal

@@ -2,7 +2,6 @@
 -- Assumes nothing.
 use Prim.Native.Nat.{◌+◌, ◌*◌}
 use native.Mathlib.Omega.{arith}
-use borrow.Author.Rules.{rules}
 use Rattle.store.specs.Node.{states_at, state_size, message_state_bytes}
 use Rattle.store.proofs.Parts.{part_back}
 use Rattle.store.proofs.Cells.{state_size_lem, state_decoded}

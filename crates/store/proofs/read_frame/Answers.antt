@@ -1,7 +1,6 @@
 -- `store::read_frame` meets its contract: each byte is read at its place.
 -- Assumes nothing.
 use mathlib.Core.Path.{refl}
-use borrow.Author.Rules.{rules}
 use Rattle.store.specs.Node.{frame_of}
 use Rattle.store.proofs.read_frame.Goals as goal
 

@@ -1,7 +1,6 @@
 -- `store::read_message` meets its contract: each byte and each word is read at its place.
 -- Assumes nothing.
 use mathlib.Core.Path.{refl}
-use borrow.Author.Rules.{rules}
 use Rattle.store.specs.Node.{message_of}
 use Rattle.store.proofs.read_message.Goals as goal
 

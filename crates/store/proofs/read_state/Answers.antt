@@ -1,7 +1,6 @@
 -- `store::read_state` meets its contract: each byte and the word is read at its place.
 -- Assumes nothing.
 use mathlib.Core.Path.{refl}
-use borrow.Author.Rules.{rules}
 use Rattle.store.specs.Node.{message_state_of}
 use Rattle.store.proofs.read_state.Goals as goal
 

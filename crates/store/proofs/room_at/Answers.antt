@@ -1,7 +1,6 @@
 -- `store::room_at` meets its contract: what is lent begins where the data of the frame lie.
 -- Assumes nothing.
 use Prim.Native.Nat.{◌+◌, ◌*◌}
-use borrow.Author.Rules.{rules}
 use Rattle.store.specs.Node.{deliveries_at, room_of}
 use Rattle.store.proofs.Parts.{part_lent}
 use Rattle.store.proofs.room_at.Goals as goal

@@ -2,7 +2,6 @@
 -- Assumes nothing.
 use mathlib.Core.Path.{ap, sym, ◌∙◌}
 use Prim.Native.Nat.{◌+◌, ◌*◌}
-use borrow.Author.Rules.{rules}
 use Rattle.store.specs.Node.{message_state_of, states_at, state_size}
 use Rattle.store.proofs.Parts.{part_lent}
 use Rattle.store.proofs.Places.{state_read}

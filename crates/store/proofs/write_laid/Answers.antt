@@ -2,7 +2,6 @@
 -- Assumes nothing.
 use native.Mathlib.Omega.{arith}
 use lib.ListN.{length-set}
-use borrow.Author.Rules.{rules}
 use Rattle.store.specs.Node.{laid_bytes}
 use Rattle.store.proofs.Writes.{written_at_once}
 use Rattle.store.proofs.write_laid.Goals as goal

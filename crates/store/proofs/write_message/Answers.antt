@@ -1,11 +1,10 @@
 -- `store::write_message` meets its contract: the bytes and the words are written one after the other, and they are the whole cell.
 -- Assumes nothing.
-use mathlib.Core.Path.{refl, ◌∙◌}
+use mathlib.Core.Path.{refl}
 use mathlib.Core.List.{List, [], ◌∷◌}
 use Prim.Native.Nat.{ℕ}
 use native.Mathlib.Omega.{arith}
 use lib.ListN.{length-set}
-use borrow.Author.Rules.{rules}
 use Rattle.store.specs.Node.{message_bytes}
 use Rattle.store.proofs.Writes.{written_first, written_next, written_all}
 use Rattle.store.proofs.write_message.Goals as goal

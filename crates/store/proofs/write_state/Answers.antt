@@ -1,11 +1,9 @@
 -- `store::write_state` meets its contract: the bytes and the word are written one after the other, and they are the whole cell.
 -- Assumes nothing.
-use mathlib.Core.Path.{refl, ◌∙◌}
+use mathlib.Core.Path.{refl}
 use mathlib.Core.List.{List, [], ◌∷◌}
 use Prim.Native.Nat.{ℕ}
 use native.Mathlib.Omega.{arith}
-use lib.ListN.{length-set}
-use borrow.Author.Rules.{rules}
 use Rattle.store.specs.Node.{message_state_bytes}
 use Rattle.store.proofs.Writes.{written_first, written_next, written_all}
 use Rattle.store.proofs.write_state.Goals as goal

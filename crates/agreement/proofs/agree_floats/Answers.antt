@@ -44,9 +44,8 @@ slice_bounds-agree-end c = sym (length-take-le c.set_aside-n.result _ (omega (ar
 
 pub returns : goal.returns
 returns c =
-    let kept = c in
-    let a = kept.args in
+    let a = c.args in
     let l = a.instances.now in
     c.agree.ensures
-    ∙ ap (agreed a.agreement) kept.set_aside-n.ensures.2
-    ∙ sym (of_eight a.agreement l (omega arith) ∙ others a.agreement (left_of l) kept.if-agreement-eq1.false)
+    ∙ ap (agreed a.agreement) c.set_aside-n.ensures.2
+    ∙ sym (of_eight a.agreement l (omega arith) ∙ others a.agreement (left_of l) c.if-agreement-eq1.false)

@@ -29,19 +29,18 @@ loop-j-preserved c =
     (omega arith, p.invariant.1 ∙ turn (running_of p.s) l p.j (omega arith) ∙ ap (λ r. running_from r (drop (p.j + 1) l)) (sym added))
 
 -- the loop is through: what `divide` answers is the mean of those that are left
-mean-is : (c : After-divide)
+mean_is : (c : After-divide)
     → agreed_mean c.divide.result ≡ float_mean (left_of c.args.instances.now)
-mean-is c =
+mean_is c =
     let p = c.loop-j in
-    let s = c in
-    let l = s.args.instances.now in
-    ap agreed_mean (c.divide.ensures ∙ ap finish (sym (p.invariant.1 ∙ end (running_of p.s) l p.j (omega arith)))) ∙ running_mean l s.requires
+    let l = c.args.instances.now in
+    ap agreed_mean (c.divide.ensures ∙ ap finish (sym (p.invariant.1 ∙ end (running_of p.s) l p.j (omega arith)))) ∙ running_mean l c.requires
 
 pub returns-in-Pattern : goal.returns-in-Pattern
 returns-in-Pattern c =
     let x = c.in-Pattern.x in
     let read : to_z w64 x ≡ pos x = search rules in
-    ap Value read ∙ sym (ap agreed_mean c.in-Pattern.is) ∙ mean-is (goal.at.returns-in-Pattern c).After-divide
+    ap Value read ∙ sym (ap agreed_mean c.in-Pattern.is) ∙ mean_is (goal.at.returns-in-Pattern c).After-divide
 
 pub returns-in-NoResult : goal.returns-in-NoResult
-returns-in-NoResult c = sym (ap agreed_mean c.in-NoResult.is) ∙ mean-is (goal.at.returns-in-NoResult c).After-divide
+returns-in-NoResult c = sym (ap agreed_mean c.in-NoResult.is) ∙ mean_is (goal.at.returns-in-NoResult c).After-divide

@@ -51,9 +51,9 @@ nonzero_div-result c =
     let parts = values_parts c.args.instances.now (passed (goal.at.nonzero_div-result c).Else-not-all_values) in
     (omega (arith, parts.0), search (arith, ints, room, c.sum_of.ensures.1))
 
-mean-is : (s : ℤ) (l : List ℤ) → s ≡ sum_of l → quot_z s (pos (length l)) ≡ mean_of l
+mean_is : (s : ℤ) (l : List ℤ) → s ≡ sum_of l → quot_z s (pos (length l)) ≡ mean_of l
 unfolding mean_of
-mean-is s l e = ap (λ z. quot_z z (pos (length l))) e
+mean_is s l e = ap (λ z. quot_z z (pos (length l))) e
 
 -- the bits stand for the sum, the count and the quotient
 pub returns : goal.returns
@@ -62,7 +62,7 @@ returns c =
     let s = c.sum_of.result in
     let small = c.sum_of.ensures.1 in
     let values = passed (goal.at.returns c).Else-not-all_values in
-    let read-sum : to_z w64 (of_z w64 s) ≡ s = back s (omega arith) in
+    let read_sum : to_z w64 (of_z w64 s) ≡ s = back s (omega arith) in
     let read_count : to_z w64 (length l) ≡ pos (length l) = to_z_pos w64 (length l) (omega (arith, (values_parts l values).1)) in
     let read = to_z-of_z w64 _ (room s (pos (length l)) small) in
-    ap Value (ap (λ z. to_z w64 (of_z w64 z)) (ap₂ quot_z read-sum read_count) ∙ read ∙ mean-is s l c.sum_of.ensures.0) ∙ has_mean l values
+    ap Value (ap (λ z. to_z w64 (of_z w64 z)) (ap₂ quot_z read_sum read_count) ∙ read ∙ mean_is s l c.sum_of.ensures.0) ∙ has_mean l values

@@ -80,7 +80,6 @@ loop-j-preserved c =
 
 pub returns : goal.returns
 returns c =
-    let s = c in
     let p = c.loop-j in
-    let none = ap left_of (none_left s.args.instances.now p.j (omega arith)) in
-    (omega (arith, s.requires.0), p.invariant.2, sym (p.invariant.3 ∙ ap (λ (r : List ℤ). take p.n p.left ++ r) (none ∙ left_none) ∙ append-nil (take p.n p.left)))
+    let none = ap left_of (none_left c.args.instances.now p.j (omega arith)) in
+    (omega (arith, c.requires.0), p.invariant.2, sym (p.invariant.3 ∙ ap (λ (r : List ℤ). take p.n p.left ++ r) (none ∙ left_none) ∙ append-nil (take p.n p.left)))

@@ -16,23 +16,20 @@ loop-m-init c = (ap (λ (r : Counts). r.messages) c.counts_of-messages.ensures, 
 
 pub loop-m-preserved : goal.loop-m-preserved
 loop-m-preserved c =
-    let read = c in
-    let loop = read in
-    let b = loop.args.node.now in
-    let m = loop.loop-m.m in
+    let b = c.args.node.now in
+    let m = c.loop-m.m in
     let room : m < length (state_of b).messages = omega (arith, states_length b) in
-    let inv = loop.loop-m.invariant in
+    let inv = c.loop-m.invariant in
     elim c.if-not-g.branch [
       | then-not-g w ↦ rw w.node-is (
         inv.0,
         search rules,
-        close_turn (node_of b) m room inv.2 read.message_at-g.ensures (omega arith) (ne_eqb _ _ w.if-not-g.true) w.close_message.ensures,
+        close_turn (node_of b) m room inv.2 c.message_at-g.ensures (omega arith) (ne_eqb _ _ w.if-not-g.true) w.close_message.ensures,
       )
-      | else-not-g w ↦ rw w.node-is (inv.0, inv.1, close_skip (node_of b) m room inv.2 read.message_at-g.ensures (omega arith) (eq-eqb _ _ w.if-not-g.false))
+      | else-not-g w ↦ rw w.node-is (inv.0, inv.1, close_skip (node_of b) m room inv.2 c.message_at-g.ensures (omega arith) (eq-eqb _ _ w.if-not-g.false))
     ]
 
 pub returns : goal.returns
 returns c =
-    let loop = c in
-    let b = loop.args.node.now in
-    loop.loop-m.invariant.2 ∙ close_end (node_of b) loop.loop-m.m (omega arith)
+    let b = c.args.node.now in
+    c.loop-m.invariant.2 ∙ close_end (node_of b) c.loop-m.m (omega arith)

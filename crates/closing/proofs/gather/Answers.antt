@@ -18,16 +18,15 @@ use Rattle.closing.proofs.gather.Goals as goal
 
 pub loop-i-init : goal.loop-i-init
 loop-i-init c =
-    let start = c in
-    let n = node_of start.args.node.now in
+    let n = node_of c.args.node.now in
     let from = ap (λ (p : Places). p.from) c.places_of-own.ensures.0 in (
       from,
       ap (λ (p : Places). p.end) c.places_of-own.ensures.0,
       search rules,
       search rules,
-      start.requires.1,
-      rw from (instances_begin n start.args.message),
-      rw from (none_begin n start.args.message),
+      c.requires.1,
+      rw from (instances_begin n c.args.message),
+      rw from (none_begin n c.args.message),
     )
 
 pub owns-requires : goal.owns-requires
@@ -44,27 +43,23 @@ value_in-requires c = (came_known _ _ (sym c.did_come.ensures ∙ c.if-did_come.
 
 pub loop-i-preserved : goal.loop-i-preserved
 loop-i-preserved c =
-    let asked = c in
-    let told = asked in
-    let loop = told in
-    let read = loop in
-    let args = read.args in
+    let args = c.args in
     let b = args.node.now in
     let node = node_of b in
     let m = args.message in
-    let i = loop.loop-i.i in
-    let l = loop.loop-i.values in
-    let n = loop.loop-i.number in
-    let none = loop.loop-i.none in
+    let i = c.loop-i.i in
+    let l = c.loop-i.values in
+    let n = c.loop-i.number in
+    let none = c.loop-i.none in
     let room : n < 8 = omega arith in
-    let inv = loop.loop-i.invariant in
-    let cell = told.cell_at-d.ensures.0 in
-    let mine = asked.owns.ensures in
+    let inv = c.loop-i.invariant in
+    let cell = c.cell_at-d.ensures.0 in
+    let mine = c.owns.ensures in
     elim c.if-owns.branch [
       | then-owns+then-did_come+then-is_status_set w ↦
           let here = sym (w.did_come.ensures ∙ ap (came (state_of b)) w.laid_at-x.ensures) ∙ w.if-did_come.true in
           let set = sym (w.is_status_set.ensures ∙ ap (status_set node) w.laid_at-x.ensures) ∙ w.if-is_status_set.true in
-          let value = w.value_in.ensures ∙ ap₂ (value_in node) read.message_at-g.ensures w.laid_at-x.ensures in
+          let value = w.value_in.ensures ∙ ap₂ (value_in node) c.message_at-g.ensures w.laid_at-x.ensures in
           let back = to_z-of_z w64 w.value_in.result (record { sfits = w.value_in.type_inv }) in
           rw (w.values-is, w.number-is, w.none-is, back) (
             inv.0,
@@ -114,12 +109,11 @@ loop-i-preserved c =
 
 pub returns : goal.returns
 returns c =
-    let loop = c in
-    let args = loop.args in
+    let args = c.args in
     let node = node_of args.node.now in
-    let none = instances_end node args.message loop.loop-i.i (omega arith) in (
+    let none = instances_end node args.message c.loop-i.i (omega arith) in (
       search rules,
-      loop.loop-i.invariant.4,
-      sym (rw (none, append-nil) at loop.loop-i.invariant.5),
-      sym (loop.loop-i.invariant.6 ∙ none_end node args.message loop.loop-i.i loop.loop-i.none (omega arith)),
+      c.loop-i.invariant.4,
+      sym (rw (none, append-nil) at c.loop-i.invariant.5),
+      sym (c.loop-i.invariant.6 ∙ none_end node args.message c.loop-i.i c.loop-i.none (omega arith)),
     )

@@ -17,7 +17,5 @@ returns-then-not-x c =
 pub returns : goal.returns
 unfolding status_set status_places
 returns c =
-    let bits = c in
-    let test = bits in
-    let one : eqb test.args.x.status 1 ≡ true = not-false _ test.if-not-x.false-raw in
-    rw (one, ← bits.data_at.ensures, ← bits.frame_at-h.ensures, ← c.unpack.ensures) refl
+    let one : eqb c.args.x.status 1 ≡ true = not-false _ c.if-not-x.false-raw in
+    rw (one, ← c.data_at.ensures, ← c.frame_at-h.ensures, ← c.unpack.ensures) refl

@@ -18,12 +18,10 @@ use Rattle.closing.proofs.value_in.Goals as goal
 
 pub unpack_in-pattern-requires : goal.unpack_in-pattern-requires
 unpack_in-pattern-requires c =
-    let room = c in
-    let s = room in
-    let size = ap length room.room_at.ensures ∙ room_length s.args.node.now s.requires.1 _ s.requires.0 in
-    omega (arith, size, room.data_length-n.ensures)
+    let size = ap length c.room_at.ensures ∙ room_length c.args.node.now c.requires.1 _ c.requires.0 in
+    omega (arith, size, c.data_length-n.ensures)
 
--- the data are the first n bytes of the room
+-- the data are the first n bytes of the c
 in_room : (d r : List ℕ) (n : ℕ) (big : Bool) (start w : ℕ) → length r ≡ 40 → n ≤ 32 → take n r ≡ d
     → unpacked (places_in (length d) big start w) d ≡ unpacked (places_in n big start w) (take n r)
 in_room d r n big start w l few front =
@@ -33,23 +31,19 @@ in_room d r n big start w l few front =
 pub returns : goal.returns
 unfolding value_in
 returns c =
-    let pattern = c in
-    let room = pattern in
-    let frame = room in
-    let s = frame in
-    let b = s.args.node.now in
-    let f = s.args.x.frame in
-    let n = room.data_length-n.result in
-    let lent = room.room_at.ensures in
+    let b = c.args.node.now in
+    let f = c.args.x.frame in
+    let n = c.data_length-n.result in
+    let lent = c.room_at.ensures in
     let cut : n ≡ min (frame_at (layout_of b) f).length 32 =
-    room.data_length-n.ensures ∙ ap (λ (h : Frame). min h.length 32) frame.frame_at-h.ensures
+    c.data_length-n.ensures ∙ ap (λ (h : Frame). min h.length 32) c.frame_at-h.ensures
     in
     let few : n ≤ 32 = omega arith in
-    let size = ap length lent ∙ room_length b s.requires.1 f s.requires.0 in
-    let front = ap₂ take cut lent ∙ data_in_room b s.requires.1 f s.requires.0 in
+    let size = ap length lent ∙ room_length b c.requires.1 f c.requires.0 in
+    let front = ap₂ take cut lent ∙ data_in_room b c.requires.1 f c.requires.0 in
     rw (
-      in_room (data_at (node_of b) f) _ n _ s.args.x.start s.args.g.width size few front,
-      ← frame.frame_at-h.ensures,
-      ← pattern.unpack_in-pattern.ensures,
+      in_room (data_at (node_of b) f) _ n _ c.args.x.start c.args.g.width size few front,
+      ← c.frame_at-h.ensures,
+      ← c.unpack_in-pattern.ensures,
     )
     (to_z-of_z w64 c.value_of.result (record { sfits = c.value_of.type_inv }) ∙ c.value_of.ensures)

@@ -18,13 +18,12 @@ ranked u r f g e = to_z-of_z w64 r g ∙ e ∙ ap (λ (v : ℤ). rank_of (patter
 pub returns-then-sign-eq2 : goal.returns-then-sign-eq2
 unfolding compared
 returns-then-sign-eq2 c =
-    let branch = c in
-    let a = branch.args in
-    let f = branch.ranges in
+    let a = c.args in
+    let f = c.ranges in
     let r₁ = c.rank_of in
     let r₂ = c.rank_of-then-sign-eq2 in
     rw (
-      eq-eqb _ _ branch.if-sign-eq2.true,
+      eq-eqb _ _ c.if-sign-eq2.true,
       ranked a.u r₁.result f.u (record { sfits = r₁.type_inv }) r₁.ensures,
       ranked a.v r₂.result f.v (record { sfits = r₂.type_inv }) r₂.ensures,
     )
@@ -33,5 +32,4 @@ returns-then-sign-eq2 c =
 pub returns : goal.returns
 unfolding compared
 returns c =
-    let start = c in
-    rw (ne_eqb _ _ c.if-sign-eq2.false, to_z-of_z w64 start.args.u start.ranges.u, to_z-of_z w64 start.args.v start.ranges.v)
+    rw (ne_eqb _ _ c.if-sign-eq2.false, to_z-of_z w64 c.args.u c.ranges.u, to_z-of_z w64 c.args.v c.ranges.v)

@@ -7,5 +7,4 @@ use Rattle.filter.proofs.mask.Goals as goal
 pub returns : goal.returns
 unfolding masked
 returns c =
-    let a = c in
-    rw (c.pattern_of.ensures, to_z-of_z w64 a.args.value a.ranges.value)
+    rw (c.pattern_of.ensures, to_z-of_z w64 c.args.value c.ranges.value)

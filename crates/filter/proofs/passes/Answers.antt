@@ -52,25 +52,21 @@ returns-in-5 c = rw c.in-5.is (ap not (bits_eq _ _ c.ranges.new c.ranges.old))
 pub returns-in-6 : goal.returns-in-6
 unfolding passes rules
 returns-in-6 c =
-    let start = c in
     rw (c.in-6.is, c.mask-in-6.ensures, c.mask-in-6-2.ensures, new (goal.at.returns-in-6 c).Start, old (goal.at.returns-in-6 c).Start)
 
 pub returns-in-7 : goal.returns-in-7
 unfolding passes rules
 returns-in-7 c =
-    let start = c in
     rw (c.in-7.is, c.mask-in-7.ensures, c.mask-in-7-2.ensures, new (goal.at.returns-in-7 c).Start, old (goal.at.returns-in-7 c).Start)
 
 pub returns-in-8 : goal.returns-in-8
 unfolding passes rules
 returns-in-8 c =
-    let matched = c in
-    let first = c in
-    let low = first.bound_of in
+    let low = c.bound_of in
     let high = c.bound_of-in-8 in
     rw (
-      matched.in-8.is,
-      first.is_at_most.ensures,
+      c.in-8.is,
+      c.is_at_most.ensures,
       c.is_at_most-in-8.ensures,
       new (goal.at.returns-in-8 c).Start,
       bounded _ _ (record { sfits = low.type_inv }) low.ensures,
@@ -80,13 +76,11 @@ returns-in-8 c =
 pub returns-in-9 : goal.returns-in-9
 unfolding passes rules
 returns-in-9 c =
-    let matched = c in
-    let first = c in
-    let low = first.bound_of-in-9 in
+    let low = c.bound_of-in-9 in
     let high = c.bound_of-in-9-2 in
     rw (
-      matched.in-9.is,
-      first.is_below.ensures,
+      c.in-9.is,
+      c.is_below.ensures,
       c.is_below-in-9.ensures,
       new (goal.at.returns-in-9 c).Start,
       bounded _ _ (record { sfits = low.type_inv }) low.ensures,
@@ -110,8 +104,8 @@ unfolding passes rules
 returns-in-13 c = rw (c.in-13.is, c.is_at_most-in-13.ensures, new (goal.at.returns-in-13 c).Start, old (goal.at.returns-in-13 c).Start)
 
 -- a number that is none of five is past them
-past-five : (n k : ℕ) → n ≤ k → (k ≡ n → ⊥) → (k ≡ n + 1 → ⊥) → (k ≡ n + 2 → ⊥) → (k ≡ n + 3 → ⊥) → (k ≡ n + 4 → ⊥) → n + 5 ≤ k
-past-five n k h a b c d e = omega arith
+past_five : (n k : ℕ) → n ≤ k → (k ≡ n → ⊥) → (k ≡ n + 1 → ⊥) → (k ≡ n + 2 → ⊥) → (k ≡ n + 3 → ⊥) → (k ≡ n + 4 → ⊥) → n + 5 ≤ k
+past_five n k h a b c d e = omega arith
 
 -- a number that has no arm is above 13, past the end of the table
 pub returns-in-14-to-255 : goal.returns-in-14-to-255
@@ -122,8 +116,8 @@ returns-in-14-to-255 c =
     let high = c.in-14-to-255.in-14-to-255-own.rest in
     let middle = high.0.0.0.0.0 in
     let low = middle.0.0.0.0.0 in
-    let above-four : 4 ≤ k = omega (arith, low.1, low.0.1, low.0.0.1, low.0.0.0.1) in
-    let above-nine = past-five 4 k above-four middle.0.0.0.0.1 middle.0.0.0.1 middle.0.0.1 middle.0.1 middle.1 in
+    let above_four : 4 ≤ k = omega (arith, low.1, low.0.1, low.0.0.1, low.0.0.0.1) in
+    let above_nine = past_five 4 k above_four middle.0.0.0.0.1 middle.0.0.0.1 middle.0.0.1 middle.0.1 middle.1 in
     sym
     (get_or-eq_default (rules a.sign a.x1 a.x2 a.new a.old) false
-    (past-five 9 k above-nine high.0.0.0.0.1 high.0.0.0.1 high.0.0.1 high.0.1 high.1))
+    (past_five 9 k above_nine high.0.0.0.0.1 high.0.0.0.1 high.0.0.1 high.0.1 high.1))

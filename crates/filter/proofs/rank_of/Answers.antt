@@ -8,7 +8,6 @@ use Rattle.filter.proofs.rank_of.Goals as goal
 
 pub returns : goal.returns
 returns c =
-    let a = c in
     to_z-of_z w64 c.rank_of.result (record { sfits = c.rank_of.type_inv })
     ∙ c.rank_of.ensures
-    ∙ ap rank_of (c.pattern_of.ensures ∙ ap (pattern_of 32) (to_z-of_z w64 a.args.value a.ranges.value))
+    ∙ ap rank_of (c.pattern_of.ensures ∙ ap (pattern_of 32) (to_z-of_z w64 c.args.value c.ranges.value))

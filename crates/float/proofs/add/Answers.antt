@@ -42,7 +42,6 @@ overflow_add-result c = record { fits = room _ (leb-false 8 _ (taken_in (goal.at
 pub returns : goal.returns
 unfolding running_of more
 returns c =
-    let e = c in
-    let a = e.args in
+    let a = c.args in
     let t = taken_in (goal.at.returns c).Else-is_aside-s in
     rw (t.0, t.1, plus_is a.s.sum a.x c.struct_known-3-1.given.0 t.0) refl

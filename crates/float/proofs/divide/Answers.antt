@@ -35,9 +35,9 @@ no_mean : (x : ℕ) → aside x ≡ true → finite_mean x ≡ NoResult
 unfolding finite_mean
 no_mean x t = rw t refl
 
-a-mean : (x : ℕ) → aside x ≡ false → finite_mean x ≡ Pattern x
+a_mean : (x : ℕ) → aside x ≡ false → finite_mean x ≡ Pattern x
 unfolding finite_mean
-a-mean x t = rw t refl
+a_mean x t = rw t refl
 
 pub returns-then-s-eq0 : goal.returns-then-s-eq0
 unfolding finish running_of
@@ -59,4 +59,4 @@ returns-then-is_aside c =
 pub returns : goal.returns
 returns c =
     let s = c.args.s in
-    sym (finished (goal.at.returns c).After-struct_known-3-1 ∙ a-mean (bits s) (sym c.is_aside.ensures ∙ c.if-is_aside.false))
+    sym (finished (goal.at.returns c).After-struct_known-3-1 ∙ a_mean (bits s) (sym c.is_aside.ensures ∙ c.if-is_aside.false))

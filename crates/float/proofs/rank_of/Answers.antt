@@ -20,11 +20,11 @@ module _ (c : Else-x-lt2147483648) where
   abbrev x : ℕ
   x = c.args.x
 
-  is-rank : pos (2 ^ 31) -ℤ to_z w64 x ≡ rank_of x
-  is-rank = ap (λ z. pos (2 ^ 31) -ℤ z) (to_z_pos w64 x (omega arith)) ∙ sym (rank_high x c.if-x-lt2147483648.false c.ranges.x.fits)
+  is_rank : pos (2 ^ 31) -ℤ to_z w64 x ≡ rank_of x
+  is_rank = ap (λ z. pos (2 ^ 31) -ℤ z) (to_z_pos w64 x (omega arith)) ∙ sym (rank_high x c.if-x-lt2147483648.false c.ranges.x.fits)
 
 pub overflow_sub-result : goal.overflow_sub-result
-overflow_sub-result c = subst (SFits w64) (sym (is-rank c)) (small_fits (rank_of (x c)) (omega (arith, rank_small (x c))))
+overflow_sub-result c = subst (SFits w64) (sym (is_rank c)) (small_fits (rank_of (x c)) (omega (arith, rank_small (x c))))
 
 pub returns : goal.returns
-returns c = ap (λ z. to_z w64 (of_z w64 z)) (is-rank c) ∙ back (rank_of (x c)) (omega (arith, rank_small (x c)))
+returns c = ap (λ z. to_z w64 (of_z w64 z)) (is_rank c) ∙ back (rank_of (x c)) (omega (arith, rank_small (x c)))

@@ -12,9 +12,7 @@ use Rattle.listing.proofs.list_file.Goals as goal
 
 pub put_lines-requires : goal.put_lines-requires
 put_lines-requires c =
-    let told = c in
-    let answer = told in
-    let laid = (accepted _ _ _ _).0 (sym answer.read_layout.ensures ∙ told.in-Accepted.is) in (
+    let laid = (accepted _ _ _ _).0 (sym c.read_layout.ensures ∙ c.in-Accepted.is) in (
       omega (arith, c.put_text-a.ensures.after, laid.fields_few),
       omega (arith, few_frames _ _ _ _ laid),
       omega (arith, few_messages _ _ _ _ laid),
@@ -23,22 +21,15 @@ put_lines-requires c =
 
 pub put_refusal-requires : goal.put_refusal-requires
 put_refusal-requires c =
-    let told = c in
-    let answer = told in
-    (omega arith, omega (arith, refused_record _ _ _ (sym answer.read_layout.ensures ∙ told.in-Refused.is)))
+    (omega arith, omega (arith, refused_record _ _ _ (sym c.read_layout.ensures ∙ c.in-Refused.is)))
 
 pub returns-in-Accepted : goal.returns-in-Accepted
 unfolding listing
 returns-in-Accepted c =
-    let heading = c in
-    let told = heading in
-    let answer = told in
-    let e = sym answer.read_layout.ensures ∙ told.in-Accepted.is in
-    rw e (put_within (put_both heading.put_text-a.ensures c.put_lines.ensures) (omega (arith, ((accepted _ _ _ _).0 e).fields_few)))
+    let e = sym c.read_layout.ensures ∙ c.in-Accepted.is in
+    rw e (put_within (put_both c.put_text-a.ensures c.put_lines.ensures) (omega (arith, ((accepted _ _ _ _).0 e).fields_few)))
 
 pub returns-in-Refused : goal.returns-in-Refused
 unfolding listing
 returns-in-Refused c =
-    let told = c in
-    let answer = told in
-    rw (sym answer.read_layout.ensures ∙ told.in-Refused.is) (put_within c.put_refusal.ensures (omega arith))
+    rw (sym c.read_layout.ensures ∙ c.in-Refused.is) (put_within c.put_refusal.ensures (omega arith))

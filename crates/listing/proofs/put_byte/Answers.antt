@@ -13,7 +13,4 @@ returns-then-byte-eq0 c = rw (eq-eqb c.args.byte 0 c.if-byte-eq0.true) (put_with
 pub returns : goal.returns
 unfolding byte_text
 returns c =
-    let number = c in
-    let word = number in
-    let test = word in
-    rw (ne_eqb test.args.byte 0 test.if-byte-eq0.false) (put_both word.put_text-p.ensures number.put_number.ensures)
+    rw (ne_eqb c.args.byte 0 c.if-byte-eq0.false) (put_both c.put_text-p.ensures c.put_number.ensures)

@@ -6,7 +6,4 @@ use Rattle.listing.proofs.put_field.Goals as goal
 pub returns : goal.returns
 unfolding line_at
 returns c =
-    let line = c in
-    let message = line in
-    let field = message in
-    rw (← field.field_at-r.ensures, ← message.message_at-g.ensures) line.put_line.ensures
+    rw (← c.field_at-r.ensures, ← c.message_at-g.ensures) c.put_line.ensures

@@ -8,14 +8,8 @@ use Rattle.listing.proofs.put_line.Goals as goal
 pub returns : goal.returns
 unfolding line_of
 returns c =
-    let end = c in
-    let status = end in
-    let width = status in
-    let start = width in
-    let frame = start in
-    let message = frame in
     simp append_assoc at
-    (put_both message.put_spaced-a.ensures
-    (put_both frame.put_spaced-b.ensures
-    (put_both start.put_spaced-c.ensures
-    (put_both width.put_spaced-d.ensures (put_both status.put_status-e.ensures end.put.ensures)))))
+    (put_both c.put_spaced-a.ensures
+    (put_both c.put_spaced-b.ensures
+    (put_both c.put_spaced-c.ensures
+    (put_both c.put_spaced-d.ensures (put_both c.put_status-e.ensures c.put.ensures)))))

@@ -13,9 +13,8 @@ loop-d-init c = (search rules, refl, put_none _ _)
 pub loop-d-preserved : goal.loop-d-preserved
 unfolding lines
 loop-d-preserved c =
-    let line = c in
-    let turn = line.loop-d in
-    let written = put_both turn.invariant.2 line.put_field-p.ensures in
+    let turn = c.loop-d in
+    let written = put_both turn.invariant.2 c.put_field-p.ensures in
     (search rules, search rules, rw (add-one turn.d) (put_within written (omega arith)))
 
 pub returns : goal.returns

@@ -7,24 +7,14 @@ use Rattle.listing.proofs.put_number.Goals as goal
 
 pub returns-then-n-lt10 : goal.returns-then-n-lt10
 returns-then-n-lt10 c =
-    let first = c in
-    let test = first in
-    rw (one_digit test.args.n test.if-n-lt10.true) (put_within first.put.ensures (omega arith))
+    rw (one_digit c.args.n c.if-n-lt10.true) (put_within c.put.ensures (omega arith))
 
 pub returns-then-n-lt100 : goal.returns-then-n-lt100
 returns-then-n-lt100 c =
-    let last = c in
-    let first = last in
-    let test = first in
-    rw (two_digits test.args.n test.if-n-lt10.false test.if-n-lt100.true)
-    (put_within (put_both first.put-p.ensures last.put-then-n-lt100.ensures) (omega arith))
+    rw (two_digits c.args.n c.if-n-lt10.false c.if-n-lt100.true)
+    (put_within (put_both c.put-p.ensures c.put-then-n-lt100.ensures) (omega arith))
 
 pub returns : goal.returns
 returns c =
-    let last = c in
-    let middle = last in
-    let first = middle in
-    let test = first in
-    let start = test in
-    rw (three_digits start.args.n test.if-n-lt100.false start.requires.1)
-    (put_both first.put-p-2.ensures (put_both middle.put-q.ensures last.put-2.ensures))
+    rw (three_digits c.args.n c.if-n-lt100.false c.requires.1)
+    (put_both c.put-p-2.ensures (put_both c.put-q.ensures c.put-2.ensures))

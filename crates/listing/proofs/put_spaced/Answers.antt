@@ -5,6 +5,4 @@ use Rattle.listing.proofs.put_spaced.Goals as goal
 
 pub returns : goal.returns
 returns c =
-    let last = c in
-    let first = last in
-    put_both first.put_number-p.ensures last.put.ensures
+    put_both c.put_number-p.ensures c.put.ensures

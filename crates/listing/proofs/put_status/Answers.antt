@@ -9,11 +9,9 @@ use Rattle.listing.proofs.put_status.Goals as goal
 pub returns-then-r-eq1 : goal.returns-then-r-eq1
 unfolding status_text
 returns-then-r-eq1 c =
-    let test = c in
-    rw (eq-eqb test.args.r.status 1 test.if-r-eq1.true) c.put_number.ensures
+    rw (eq-eqb c.args.r.status 1 c.if-r-eq1.true) c.put_number.ensures
 
 pub returns : goal.returns
 unfolding status_text
 returns c =
-    let test = c in
-    rw (ne_eqb test.args.r.status 1 test.if-r-eq1.false) (put_within c.put.ensures (omega arith))
+    rw (ne_eqb c.args.r.status 1 c.if-r-eq1.false) (put_within c.put.ensures (omega arith))

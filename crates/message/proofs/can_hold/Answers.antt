@@ -21,25 +21,21 @@ tested {v} f e h = h ∙ ap aside (e ∙ ap (pattern_of 32) (to_z-of_z w64 v f))
 pub returns-then-is_aside : goal.returns-then-is_aside
 unfolding can_hold
 returns-then-is_aside c =
-    let float = c in
-    let start = float in
-    let a = start.args in
-    let set-aside = tested start.ranges.value c.pattern_of.ensures c.is_aside.ensures in
-    rw (eq-eqb _ _ float.if-g-eq2.true, sym set-aside ∙ c.if-is_aside.true) (sym (and-false (in_range (is_signed a.g) a.g.width a.value)))
+    let a = c.args in
+    let set_aside = tested c.ranges.value c.pattern_of.ensures c.is_aside.ensures in
+    rw (eq-eqb _ _ c.if-g-eq2.true, sym set_aside ∙ c.if-is_aside.true) (sym (and-false (in_range (is_signed a.g) a.g.width a.value)))
 
--- where the range is asked for, no float is set aside
+-- where the range is asked for, no c is set aside
 kept : (c : Joined-g-eq2) → (is_float c.args.g && aside (pattern_of 32 c.args.value)) ≡ false
 kept c =
-    let start = c in
     elim c.if-g-eq2.branch [
-      | then-g-eq2+else-is_aside w ↦ rw (sym (tested start.ranges.value w.pattern_of.ensures w.is_aside.ensures) ∙ w.if-is_aside.false) (and-false (is_float start.args.g))
+      | then-g-eq2+else-is_aside w ↦ rw (sym (tested c.ranges.value w.pattern_of.ensures w.is_aside.ensures) ∙ w.if-is_aside.false) (and-false (is_float c.args.g))
       | else-g-eq2 w ↦ rw (ne_eqb _ _ w.if-g-eq2.false) refl
     ]
 
 pub returns : goal.returns
 unfolding can_hold
 returns c =
-    let start = c in
-    let a = start.args in
-    rw (c.in_range.ensures, to_z-of_z w64 a.value start.ranges.value, kept (goal.at.returns c).Joined-g-eq2)
+    let a = c.args in
+    rw (c.in_range.ensures, to_z-of_z w64 a.value c.ranges.value, kept (goal.at.returns c).Joined-g-eq2)
     (sym (and-true (in_range (is_signed a.g) a.g.width a.value)))

@@ -25,11 +25,9 @@ asked c =
 pub returns-then-passed : goal.returns-then-passed
 unfolding filtered
 returns-then-passed c =
-    let join = c in
     simp (asked (goal.at.returns-then-passed c).Joined-g-ne0, c.if-passed.true, c.held_if-t.ensures, back (goal.at.returns-then-passed c).Joined-g-ne0)
 
 pub returns-else-passed : goal.returns-else-passed
 unfolding filtered
 returns-else-passed c =
-    let join = c in
     simp (asked (goal.at.returns-else-passed c).Joined-g-ne0, c.if-passed.false, c.held_if-t.ensures)

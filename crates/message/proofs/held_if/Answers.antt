@@ -5,5 +5,4 @@ use Rattle.message.proofs.held_if.Goals as goal
 
 pub returns-then-passed : goal.returns-then-passed
 returns-then-passed c =
-    let start = c in
-    simp (c.if-passed.true, c.pattern_of-pattern.ensures, to_z-of_z w64 start.args.value start.ranges.value)
+    simp (c.if-passed.true, c.pattern_of-pattern.ensures, to_z-of_z w64 c.args.value c.ranges.value)

@@ -37,6 +37,5 @@ by_passed false x s = refl
 pub returns : goal.returns
 unfolding offered
 returns c =
-    let join = c in
-    let a = join.args in
-    rw (asked (goal.at.returns c).Joined-g-ne0, c.held_if-t.ensures, as_number join.if-g-ne0.passed, back (goal.at.returns c).Joined-g-ne0) (by_passed join.if-g-ne0.passed (pattern_of 32 a.value) a.s)
+    let a = c.args in
+    rw (asked (goal.at.returns c).Joined-g-ne0, c.held_if-t.ensures, as_number c.if-g-ne0.passed, back (goal.at.returns c).Joined-g-ne0) (by_passed c.if-g-ne0.passed (pattern_of 32 a.value) a.s)

@@ -24,14 +24,13 @@ settled_some g s none (v ∷ l) h = refl
 
 pub returns-then-instances-eq0 : goal.returns-then-instances-eq0
 returns-then-instances-eq0 c =
-    let told = c in
-    let a = told.args in
+    let a = c.args in
     c.with_status.ensures
-    ∙ elim told.if-none.branch [
+    ∙ elim c.if-none.branch [
       | then-none w ↦ rw (w.with_status-is, w.if-none.true) refl
       | else-none w ↦ rw (w.with_status-is, w.if-none.false) refl
     ]
-    ∙ settled_none a.g a.s a.none a.instances.now told.if-instances-eq0.true
+    ∙ settled_none a.g a.s a.none a.instances.now c.if-instances-eq0.true
 
 pub returns : goal.returns
 returns c =

@@ -11,16 +11,12 @@ use Rattle.message.proofs.write_field.Goals as goal
 pub returns-then-x-eq1 : goal.returns-then-x-eq1
 unfolding writes status_places
 returns-then-x-eq1 c =
-    let second = c in
-    let test = second in
-    let first = test in
-    let args = first.args in
-    rw (second.pack-then-x-eq1.ensures, first.pack.ensures, packed_length, eq-eqb args.x.status 1 test.if-x-eq1.true)
+    let args = c.args in
+    rw (c.pack-then-x-eq1.ensures, c.pack.ensures, packed_length, eq-eqb args.x.status 1 c.if-x-eq1.true)
     (rw (as_number (is_valid args.s)))
 
 pub returns-else-x-eq1 : goal.returns-else-x-eq1
 unfolding writes status_places packed
 returns-else-x-eq1 c =
-    let first = c in
-    let args = first.args in
-    rw (first.pack.ensures, ne_eqb args.x.status 1 c.if-x-eq1.false)
+    let args = c.args in
+    rw (c.pack.ensures, ne_eqb args.x.status 1 c.if-x-eq1.false)

@@ -6,5 +6,4 @@ use Rattle.mondgurt.proofs.mondgurt_send.Goals as goal
 
 pub returns : goal.returns
 returns c =
-    let start = c in
-    (rw (to_z-of_z w64 start.args.value start.ranges.value) at c.send.ensures, refl)
+    (rw (to_z-of_z w64 c.args.value c.ranges.value) at c.send.ensures, refl)

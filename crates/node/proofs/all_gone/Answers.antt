@@ -30,39 +30,31 @@ field_at-requires c = (inside _ _ c.owns.ensures c.if-owns.true, search rules)
 
 pub returns-then-not-is_gone : goal.returns-then-not-is_gone
 returns-then-not-is_gone c =
-    let branch = c in
-    let asked = branch in
-    let told = asked in
-    let loop = told in
-    let args = loop.args in
+    let args = c.args in
     let b = args.node.now in
     let stage = c.is_gone.ensures ∙ ap (λ (x : Field). is_gone x.stage) c.field_at.ensures in
-    all_stop (layout_of b) (Owner.Message args.message) loop.loop-i.i (omega arith) told.cell_at-d.ensures.0 asked.owns.ensures
-    (gone_at (state_of b)) branch.if-owns.true (sym stage ∙ not-true _ c.if-not-is_gone.true-raw) loop.loop-i.invariant.1
+    all_stop (layout_of b) (Owner.Message args.message) c.loop-i.i (omega arith) c.cell_at-d.ensures.0 c.owns.ensures
+    (gone_at (state_of b)) c.if-owns.true (sym stage ∙ not-true _ c.if-not-is_gone.true-raw) c.loop-i.invariant.1
 
 pub loop-i-preserved : goal.loop-i-preserved
 loop-i-preserved c =
-    let asked = c in
-    let told = asked in
-    let loop = told in
-    let args = loop.args in
+    let args = c.args in
     let b = args.node.now in
     let o = Owner.Message args.message in (
-      loop.loop-i.invariant.0,
+      c.loop-i.invariant.0,
       elim c.if-owns.branch [
         | then-owns+else-not-is_gone w ↦
             let stage = w.is_gone.ensures ∙ ap (λ (x : Field). is_gone x.stage) w.field_at.ensures in
-            all_turn (layout_of b) o loop.loop-i.i (omega arith) told.cell_at-d.ensures.0 asked.owns.ensures (gone_at (state_of b)) w.if-owns.true
-            (sym stage ∙ w.if-not-is_gone.false) loop.loop-i.invariant.1
+            all_turn (layout_of b) o c.loop-i.i (omega arith) c.cell_at-d.ensures.0 c.owns.ensures (gone_at (state_of b)) w.if-owns.true
+            (sym stage ∙ w.if-not-is_gone.false) c.loop-i.invariant.1
         | else-owns w ↦
-            all_skip (layout_of b) o loop.loop-i.i (omega arith) told.cell_at-d.ensures.0 asked.owns.ensures (gone_at (state_of b)) w.if-owns.false
-            loop.loop-i.invariant.1
+            all_skip (layout_of b) o c.loop-i.i (omega arith) c.cell_at-d.ensures.0 c.owns.ensures (gone_at (state_of b)) w.if-owns.false
+            c.loop-i.invariant.1
       ],
     )
 
 pub returns : goal.returns
 returns c =
-    let loop = c in
-    let args = loop.args in
+    let args = c.args in
     let b = args.node.now in
-    all_end (layout_of b) (Owner.Message args.message) (gone_at (state_of b)) loop.loop-i.i (omega arith) loop.loop-i.invariant.1
+    all_end (layout_of b) (Owner.Message args.message) (gone_at (state_of b)) c.loop-i.i (omega arith) c.loop-i.invariant.1

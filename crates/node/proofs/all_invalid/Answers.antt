@@ -32,45 +32,35 @@ owns-requires c = (c.cell_at-d.ensures.1, c.requires.1)
 
 pub laid_at-requires : goal.laid_at-requires
 laid_at-requires c =
-    let asked = c in
-    (inside _ _ asked.owns.ensures c.if-owns.true, asked.requires.1)
+    (inside _ _ c.owns.ensures c.if-owns.true, c.requires.1)
 
 pub returns-then-not-s : goal.returns-then-not-s
 returns-then-not-s c =
-    let state = c in
-    let read = state in
-    let asked = read in
-    let told = asked in
-    let loop = told in
-    let args = loop.args in
-    let valid = rw (state.its_state-s.ensures, read.laid_at.ensures) at c.if-not-s.true-raw in
-    invalid_stop (layout_of args.node.now) (Owner.Frame args.frame) (state_of args.node.now) loop.loop-i.i (omega (arith, same_end (goal.at.returns-then-not-s c).At-loop-i))
-    told.cell_at-d.ensures.0 asked.owns.ensures loop.loop-i.some loop.loop-i.invariant read.if-owns.true (ap not valid)
+    let args = c.args in
+    let valid = rw (c.its_state-s.ensures, c.laid_at.ensures) at c.if-not-s.true-raw in
+    invalid_stop (layout_of args.node.now) (Owner.Frame args.frame) (state_of args.node.now) c.loop-i.i (omega (arith, same_end (goal.at.returns-then-not-s c).At-loop-i))
+    c.cell_at-d.ensures.0 c.owns.ensures c.loop-i.some c.loop-i.invariant c.if-owns.true (ap not valid)
 
 pub loop-i-preserved : goal.loop-i-preserved
 loop-i-preserved c =
-    let asked = c in
-    let told = asked in
-    let loop = told in
-    let args = loop.args in
+    let args = c.args in
     let l = layout_of args.node.now in
     let owner = Owner.Frame args.frame in
     let s = state_of args.node.now in
-    let here : loop.loop-i.i < end_place l owner = omega (arith, same_end (goal.at.loop-i-preserved c).At-loop-i) in
+    let here : c.loop-i.i < end_place l owner = omega (arith, same_end (goal.at.loop-i-preserved c).At-loop-i) in
     elim c.if-owns.branch [
       | then-owns+else-not-s w ↦
           let valid = rw (w.its_state-s.ensures, w.laid_at.ensures) at w.if-not-s.false-raw in
           rw w.some-is
-          (invalid_turn l owner s loop.loop-i.i here told.cell_at-d.ensures.0 asked.owns.ensures loop.loop-i.some loop.loop-i.invariant w.if-owns.true
+          (invalid_turn l owner s c.loop-i.i here c.cell_at-d.ensures.0 c.owns.ensures c.loop-i.some c.loop-i.invariant w.if-owns.true
           (ap not valid))
       | else-owns w ↦
           rw w.some-is
-          (invalid_skip l owner s loop.loop-i.i here told.cell_at-d.ensures.0 asked.owns.ensures loop.loop-i.some loop.loop-i.invariant w.if-owns.false)
+          (invalid_skip l owner s c.loop-i.i here c.cell_at-d.ensures.0 c.owns.ensures c.loop-i.some c.loop-i.invariant w.if-owns.false)
     ]
 
 pub returns : goal.returns
 returns c =
-    let loop = c in
-    let args = loop.args in
-    invalid_end (layout_of args.node.now) (Owner.Frame args.frame) (state_of args.node.now) loop.loop-i.i
-    (omega (arith, same_end (goal.at.returns c).At-loop-i)) loop.loop-i.invariant
+    let args = c.args in
+    invalid_end (layout_of args.node.now) (Owner.Frame args.frame) (state_of args.node.now) c.loop-i.i
+    (omega (arith, same_end (goal.at.returns c).At-loop-i)) c.loop-i.invariant

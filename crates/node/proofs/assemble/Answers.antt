@@ -45,10 +45,7 @@ load_fields-requires c = (in_cell (goal.at.load_fields-requires c).Else-answer-n
 pub returns : goal.returns
 unfolding assemble_of assembled
 returns c =
-    let load = c in
-    let frame = load in
-    let answer = frame in
-    let args = answer.args in (
-      done _ _ _ (node_of args.node.now) (accepted (goal.at.returns c).Else-answer-ne0) load.load_fields.ensures.0,
-      rw (accepted (goal.at.returns c).Else-answer-ne0) (rw frame.frame_at-h.ensures at load.load_fields.ensures.1),
+    let args = c.args in (
+      done _ _ _ (node_of args.node.now) (accepted (goal.at.returns c).Else-answer-ne0) c.load_fields.ensures.0,
+      rw (accepted (goal.at.returns c).Else-answer-ne0) (rw c.frame_at-h.ensures at c.load_fields.ensures.1),
     )

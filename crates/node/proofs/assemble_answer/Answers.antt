@@ -16,8 +16,7 @@ returns-then-not-has_frame c = rw (rw c.has_frame.ensures at c.if-not-has_frame.
 -- past the first test the frame has a cell in the memory
 in_cell : (c : Else-not-has_frame) → (c.args.frame < 32) × (length c.args.node.now ≡ node_size)
 in_cell c =
-    let start = c in
-    (counted start.args.frame (layout_of start.args.node.now).frame_number c.has_frame.ensures c.if-not-has_frame.false-raw, start.requires)
+    (counted c.args.frame (layout_of c.args.node.now).frame_number c.has_frame.ensures c.if-not-has_frame.false-raw, c.requires)
 
 pub frame_at-h-requires : goal.frame_at-h-requires
 frame_at-h-requires c = in_cell c
@@ -25,16 +24,13 @@ frame_at-h-requires c = in_cell c
 pub returns-then-not-h : goal.returns-then-not-h
 unfolding assemble_answer
 returns-then-not-h c =
-    let number = c in
-    rw (rw number.has_frame.ensures at number.if-not-has_frame.false-raw, rw c.frame_at-h.ensures at c.if-not-h.true-raw)
+    rw (rw c.has_frame.ensures at c.if-not-has_frame.false-raw, rw c.frame_at-h.ensures at c.if-not-h.true-raw)
 
 pub returns-then-not-size-h : goal.returns-then-not-size-h
 unfolding assemble_answer
 returns-then-not-size-h c =
-    let access = c in
-    let read = access.frame_at-h.ensures in
-    let number = access in
-    rw (rw number.has_frame.ensures at number.if-not-has_frame.false-raw, rw read at access.if-not-h.false-raw)
+    let read = c.frame_at-h.ensures in
+    rw (rw c.has_frame.ensures at c.if-not-has_frame.false-raw, rw read at c.if-not-h.false-raw)
     (rw (rw read at c.if-not-size-h.true-raw))
 
 pub overflow_cast-frame : goal.overflow_cast-frame
@@ -46,19 +42,13 @@ is_suppressed-requires c = in_cell (goal.at.is_suppressed-requires c).Else-not-h
 pub returns-then-is_suppressed : goal.returns-then-is_suppressed
 unfolding assemble_answer
 returns-then-is_suppressed c =
-    let size = c in
-    let access = size in
-    let read = access.frame_at-h.ensures in
-    let number = access in
-    rw (rw number.has_frame.ensures at number.if-not-has_frame.false-raw, rw read at access.if-not-h.false-raw)
-    (rw (rw read at size.if-not-size-h.false-raw, sym c.is_suppressed.ensures ∙ c.if-is_suppressed.true))
+    let read = c.frame_at-h.ensures in
+    rw (rw c.has_frame.ensures at c.if-not-has_frame.false-raw, rw read at c.if-not-h.false-raw)
+    (rw (rw read at c.if-not-size-h.false-raw, sym c.is_suppressed.ensures ∙ c.if-is_suppressed.true))
 
 pub returns : goal.returns
 unfolding assemble_answer
 returns c =
-    let size = c in
-    let access = size in
-    let read = access.frame_at-h.ensures in
-    let number = access in
-    rw (rw number.has_frame.ensures at number.if-not-has_frame.false-raw, rw read at access.if-not-h.false-raw)
-    (rw (rw read at size.if-not-size-h.false-raw, sym c.is_suppressed.ensures ∙ c.if-is_suppressed.false))
+    let read = c.frame_at-h.ensures in
+    rw (rw c.has_frame.ensures at c.if-not-has_frame.false-raw, rw read at c.if-not-h.false-raw)
+    (rw (rw read at c.if-not-size-h.false-raw, sym c.is_suppressed.ensures ∙ c.if-is_suppressed.false))

@@ -18,8 +18,7 @@ returns-then-answer-ne0 c = untouched _ _ _ c.consumed_answer-answer.ensures c.i
 in_cell : (c : Else-answer-ne0) → c.args.frame < 32
 unfolding consumed_answer
 in_cell c =
-    let start = c in
-    in_memory start.args.frame (layout_of start.args.node.now).frame_number _ _ (sym c.consumed_answer-answer.ensures ∙ c.if-answer-ne0.false)
+    in_memory c.args.frame (layout_of c.args.node.now).frame_number _ _ (sym c.consumed_answer-answer.ensures ∙ c.if-answer-ne0.false)
 
 pub overflow_cast-owner : goal.overflow_cast-owner
 overflow_cast-owner c = omega (arith, in_cell c)
@@ -33,7 +32,4 @@ move_fields-requires c = (c.places_of-own.ensures.0, search rules)
 pub returns : goal.returns
 unfolding consumed_of
 returns c =
-    let move = c in
-    let answer = move in
-    let start = answer in
-    done _ _ _ (node_of start.args.node.now) (sym answer.consumed_answer-answer.ensures ∙ answer.if-answer-ne0.false) move.move_fields.ensures
+    done _ _ _ (node_of c.args.node.now) (sym c.consumed_answer-answer.ensures ∙ c.if-answer-ne0.false) c.move_fields.ensures

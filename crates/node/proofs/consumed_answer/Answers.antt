@@ -15,8 +15,7 @@ returns-then-not-has_frame c = rw (rw c.has_frame.ensures at c.if-not-has_frame.
 -- past the first test the frame has a cell in the memory
 in_cell : (c : Else-not-has_frame) → (c.args.frame < 32) × (length c.args.node.now ≡ node_size)
 in_cell c =
-    let start = c in
-    (counted start.args.frame (layout_of start.args.node.now).frame_number c.has_frame.ensures c.if-not-has_frame.false-raw, start.requires)
+    (counted c.args.frame (layout_of c.args.node.now).frame_number c.has_frame.ensures c.if-not-has_frame.false-raw, c.requires)
 
 pub frame_at-h-requires : goal.frame_at-h-requires
 frame_at-h-requires c = in_cell c
@@ -24,11 +23,9 @@ frame_at-h-requires c = in_cell c
 pub returns-then-not-h : goal.returns-then-not-h
 unfolding consumed_answer
 returns-then-not-h c =
-    let number = c in
-    rw (rw number.has_frame.ensures at number.if-not-has_frame.false-raw, rw c.frame_at-h.ensures at c.if-not-h.true-raw)
+    rw (rw c.has_frame.ensures at c.if-not-has_frame.false-raw, rw c.frame_at-h.ensures at c.if-not-h.true-raw)
 
 pub returns : goal.returns
 unfolding consumed_answer
 returns c =
-    let number = c in
-    rw (rw number.has_frame.ensures at number.if-not-has_frame.false-raw, rw c.frame_at-h.ensures at c.if-not-h.false-raw)
+    rw (rw c.has_frame.ensures at c.if-not-has_frame.false-raw, rw c.frame_at-h.ensures at c.if-not-h.false-raw)

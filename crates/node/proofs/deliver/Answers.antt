@@ -38,14 +38,11 @@ returns-then-answer-ne0 c = untouched _ _ _ c.deliver_answer-answer.ensures c.if
 
 pub slice_bounds-put_data-end : goal.slice_bounds-put_data-end
 slice_bounds-put_data-end c =
-    let short = c in
-    sym (length-take-le short.smaller-n.result _ (omega (arith, short.smaller-n.ensures)))
+    sym (length-take-le c.smaller-n.result _ (omega (arith, c.smaller-n.ensures)))
 
 pub put_data-requires : goal.put_data-requires
 put_data-requires c =
-    let short = c in
-    let start = short in
-    let size = length-take-le short.smaller-n.result start.args.bytes.now (omega (arith, short.smaller-n.ensures)) in
+    let size = length-take-le c.smaller-n.result c.args.bytes.now (omega (arith, c.smaller-n.ensures)) in
     (in_cell (goal.at.put_data-requires c).Else-answer-ne0, omega arith, search rules)
 
 pub put_mark-requires : goal.put_mark-requires
@@ -54,17 +51,12 @@ put_mark-requires c = (in_cell (goal.at.put_mark-requires c).Else-answer-ne0, se
 pub returns-then-valid : goal.returns-then-valid
 unfolding deliver_of kept
 returns-then-valid c =
-    let mark = c in
-    let fill = mark in
-    let short = fill in
-    let passed = short in
-    let start = passed in
-    let b = start.args.node.now in
-    let f = start.args.frame in
+    let b = c.args.node.now in
+    let f = c.args.frame in
     let number : f < length (state_of b).deliveries = omega (arith, deliveries_length b, in_cell (goal.at.returns-then-valid c).Else-answer-ne0) in
-    done _ _ _ _ (sym passed.deliver_answer-answer.ensures ∙ passed.if-answer-ne0.false)
-    (rw (short.if-valid.true, ← take_least start.args.bytes.now short.smaller-n.result 32 short.smaller-n.ensures)
-    (marked_too (node_of b) f _ number fill.put_data.ensures mark.put_mark.ensures))
+    done _ _ _ _ (sym c.deliver_answer-answer.ensures ∙ c.if-answer-ne0.false)
+    (rw (c.if-valid.true, ← take_least c.args.bytes.now c.smaller-n.result 32 c.smaller-n.ensures)
+    (marked_too (node_of b) f _ number c.put_data.ensures c.put_mark.ensures))
 
 pub returns-else-valid : goal.returns-else-valid
 unfolding deliver_of

@@ -24,8 +24,7 @@ returns-then-not-has_frame c = rw (rw c.has_frame.ensures at c.if-not-has_frame.
 -- past the first test the frame has a cell in the memory
 in_cell : (c : Else-not-has_frame) → (c.args.frame < 32) × (length c.args.node.now ≡ node_size)
 in_cell c =
-    let start = c in
-    (counted start.args.frame (layout_of start.args.node.now).frame_number c.has_frame.ensures c.if-not-has_frame.false-raw, start.requires)
+    (counted c.args.frame (layout_of c.args.node.now).frame_number c.has_frame.ensures c.if-not-has_frame.false-raw, c.requires)
 
 pub frame_at-h-requires : goal.frame_at-h-requires
 frame_at-h-requires c = in_cell c
@@ -33,19 +32,16 @@ frame_at-h-requires c = in_cell c
 pub returns-then-h-eq1 : goal.returns-then-h-eq1
 unfolding deliver_answer
 returns-then-h-eq1 c =
-    let read = c in
-    rw (known (goal.at.returns-then-h-eq1 c).Else-not-has_frame, ← read.frame_at-h.ensures, eq-eqb _ _ c.if-h-eq1.true) refl
+    rw (known (goal.at.returns-then-h-eq1 c).Else-not-has_frame, ← c.frame_at-h.ensures, eq-eqb _ _ c.if-h-eq1.true) refl
 
 pub returns-then-not-size-h : goal.returns-then-not-size-h
 unfolding deliver_answer
 returns-then-not-size-h c =
-    let read = c in
-    let other : eqb read.args.size read.frame_at-h.result.length ≡ false = not-true _ c.if-not-size-h.true-raw in
-    rw (known (goal.at.returns-then-not-size-h c).Else-not-has_frame, ← read.frame_at-h.ensures, ne_eqb _ _ c.if-h-eq1.false, other) refl
+    let other : eqb c.args.size c.frame_at-h.result.length ≡ false = not-true _ c.if-not-size-h.true-raw in
+    rw (known (goal.at.returns-then-not-size-h c).Else-not-has_frame, ← c.frame_at-h.ensures, ne_eqb _ _ c.if-h-eq1.false, other) refl
 
 pub returns : goal.returns
 unfolding deliver_answer
 returns c =
-    let read = c in
-    let same : eqb read.args.size read.frame_at-h.result.length ≡ true = not-false _ c.if-not-size-h.false-raw in
-    rw (known (goal.at.returns c).Else-not-has_frame, ← read.frame_at-h.ensures, ne_eqb _ _ c.if-h-eq1.false, same) refl
+    let same : eqb c.args.size c.frame_at-h.result.length ≡ true = not-false _ c.if-not-size-h.false-raw in
+    rw (known (goal.at.returns c).Else-not-has_frame, ← c.frame_at-h.ensures, ne_eqb _ _ c.if-h-eq1.false, same) refl

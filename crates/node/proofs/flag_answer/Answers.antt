@@ -15,8 +15,7 @@ returns-then-not-has_message c = rw (rw c.has_message.ensures at c.if-not-has_me
 -- past the first test the message has a cell in the memory
 in_cell : (c : Else-not-has_message) → (c.args.message < 32) × (length c.args.node.now ≡ node_size)
 in_cell c =
-    let start = c in
-    (counted start.args.message (layout_of start.args.node.now).message_number c.has_message.ensures c.if-not-has_message.false-raw, start.requires)
+    (counted c.args.message (layout_of c.args.node.now).message_number c.has_message.ensures c.if-not-has_message.false-raw, c.requires)
 
 pub message_at-g-requires : goal.message_at-g-requires
 message_at-g-requires c = in_cell c
@@ -24,13 +23,9 @@ message_at-g-requires c = in_cell c
 pub returns-then-not-g : goal.returns-then-not-g
 unfolding flag_answer
 returns-then-not-g c =
-    let read = c in
-    let number = read in
-    rw (rw number.has_message.ensures at number.if-not-has_message.false-raw, rw read.message_at-g.ensures at c.if-not-g.true-raw)
+    rw (rw c.has_message.ensures at c.if-not-has_message.false-raw, rw c.message_at-g.ensures at c.if-not-g.true-raw)
 
 pub returns : goal.returns
 unfolding flag_answer
 returns c =
-    let read = c in
-    let number = read in
-    rw (rw number.has_message.ensures at number.if-not-has_message.false-raw, rw read.message_at-g.ensures at c.if-not-g.false-raw)
+    rw (rw c.has_message.ensures at c.if-not-has_message.false-raw, rw c.message_at-g.ensures at c.if-not-g.false-raw)

@@ -19,8 +19,7 @@ returns-then-answer-ne0 c = untouched _ _ _ c.invalidate_answer-answer.ensures c
 in_cell : (c : Else-answer-ne0) → c.args.message < 32
 unfolding invalidate_answer
 in_cell c =
-    let start = c in
-    in_memory start.args.message (layout_of start.args.node.now).message_number _ _
+    in_memory c.args.message (layout_of c.args.node.now).message_number _ _
     (sym c.invalidate_answer-answer.ensures ∙ c.if-answer-ne0.false)
 
 pub state_at-s-requires : goal.state_at-s-requires
@@ -32,12 +31,7 @@ put_state-requires c = (in_cell (goal.at.put_state-requires c).Else-answer-ne0, 
 pub returns : goal.returns
 unfolding invalidate_of
 returns c =
-    let put = c in
-    let made = put in
-    let read = made in
-    let answer = read in
-    let start = answer in
-    let n = node_of start.args.node.now in
-    let new = rw read.state_at-s.ensures at made.invalidated_state.ensures in
-    done _ _ _ n (sym answer.invalidate_answer-answer.ensures ∙ answer.if-answer-ne0.false)
-    (put.put_state.ensures ∙ ap (λ (s : MessageState). node_with n (with_state n.state start.args.message s)) new)
+    let n = node_of c.args.node.now in
+    let new = rw c.state_at-s.ensures at c.invalidated_state.ensures in
+    done _ _ _ n (sym c.invalidate_answer-answer.ensures ∙ c.if-answer-ne0.false)
+    (c.put_state.ensures ∙ ap (λ (s : MessageState). node_with n (with_state n.state c.args.message s)) new)

@@ -13,11 +13,9 @@ event s = is_event (frame_at (layout_of s.args.node.now) s.args.frame)
 pub returns-then-not-h : goal.returns-then-not-h
 unfolding suppressed
 returns-then-not-h c =
-    let read = c in
-    rw (not-true (event (goal.at.returns-then-not-h c).Start) (rw read.frame_at-h.ensures at c.if-not-h.true-raw))
+    rw (not-true (event (goal.at.returns-then-not-h c).Start) (rw c.frame_at-h.ensures at c.if-not-h.true-raw))
 
 pub returns : goal.returns
 unfolding suppressed
 returns c =
-    let read = c in
-    rw (not-false (event (goal.at.returns c).Start) (rw read.frame_at-h.ensures at c.if-not-h.false-raw)) c.all_invalid.ensures
+    rw (not-false (event (goal.at.returns c).Start) (rw c.frame_at-h.ensures at c.if-not-h.false-raw)) c.all_invalid.ensures

@@ -30,10 +30,9 @@ places_of-own-requires c = c.requires
 
 pub loop-i-init : goal.loop-i-init
 loop-i-init c =
-    let begin = c in
-    let n = node_of begin.args.node.now in
-    let owner = Owner.Frame begin.args.frame in (
-      begin.requires.1,
+    let n = node_of c.args.node.now in
+    let owner = Owner.Frame c.args.frame in (
+      c.requires.1,
       refl,
       rw c.places_of-own.ensures.0 (ap (node_with n) (move_begin Change.Load owner n)),
       rw (c.places_of-own.ensures.0, first_ahead n.layout owner) refl,
@@ -58,53 +57,48 @@ field_at-y-requires c =
 
 pub put_stage-requires : goal.put_stage-requires
 put_stage-requires c =
-    let read = c in
-    let branch = read in
     let known = cell_known (goal.at.put_stage-requires c).Then-owns in
-    let stored = after_stored Change.Load _ (stage_stored branch.loop-i.node branch.cell_at-d.result) in
-    (known.0, rw (c.stage_after.ensures, read.field_at-y.ensures) stored, known.1)
+    let stored = after_stored Change.Load _ (stage_stored c.loop-i.node c.cell_at-d.result) in
+    (known.0, rw (c.stage_after.ensures, c.field_at-y.ensures) stored, known.1)
 
 pub loop-i-preserved : goal.loop-i-preserved
 unfolding written
 loop-i-preserved c =
-    let asked = c in
-    let loop = asked in
-    let args = loop.args in
-    let n = node_of loop.loop-i.node in
+    let args = c.args in
+    let n = node_of c.loop-i.node in
     let l = layout_of args.node.now in
     let owner = Owner.Frame args.frame in
-    let i = loop.loop-i.i in
-    let told = asked.cell_at-d.ensures.0 in
-    let own = asked.owns.ensures in
+    let i = c.loop-i.i in
+    let told = c.cell_at-d.ensures.0 in
+    let own = c.owns.ensures in
     let here : i < end_place l owner = omega (arith, same_end (goal.at.loop-i-preserved c).At-loop-i) in
-    let told-there = rw (same_layout (goal.at.loop-i-preserved c).At-loop-i) at told in
-    let own-there = rw (same_layout (goal.at.loop-i-preserved c).At-loop-i) at own in
-    let here-now : i < end_place n.layout owner = rw (same_layout (goal.at.loop-i-preserved c).At-loop-i) here in
+    let told_there = rw (same_layout (goal.at.loop-i-preserved c).At-loop-i) at told in
+    let own_there = rw (same_layout (goal.at.loop-i-preserved c).At-loop-i) at own in
+    let here_now : i < end_place n.layout owner = rw (same_layout (goal.at.loop-i-preserved c).At-loop-i) here in
     elim c.if-owns.branch [
       | then-owns w ↦
           let put = ap node_of w.node-is ∙ (rw (w.stage_after.ensures, w.field_at-y.ensures) at w.put_stage.ensures) in (
-            c.if-owns.auto.node ∙ loop.loop-i.invariant.0,
-            c.if-owns.auto.buffer ∙ loop.loop-i.invariant.1,
-            move_turn Change.Load owner n i here-now told own w.if-owns.true put ∙ loop.loop-i.invariant.2,
+            c.if-owns.auto.node ∙ c.loop-i.invariant.0,
+            c.if-owns.auto.buffer ∙ c.loop-i.invariant.1,
+            move_turn Change.Load owner n i here_now told own w.if-owns.true put ∙ c.loop-i.invariant.2,
             rw (w.buffer-is ∙ w.write_field.ensures, w.its_message.ensures, w.its_state.ensures, w.laid_at-x.ensures, same_layout (goal.at.loop-i-preserved c).At-loop-i, same_states (goal.at.loop-i-preserved c).At-loop-i)
-                (rw (own_ahead l owner i here told-there own-there w.if-owns.true) at loop.loop-i.invariant.3),
+                (rw (own_ahead l owner i here told_there own_there w.if-owns.true) at c.loop-i.invariant.3),
           )
       | else-owns w ↦ (
-        c.if-owns.auto.node ∙ loop.loop-i.invariant.0,
-        c.if-owns.auto.buffer ∙ loop.loop-i.invariant.1,
-        rw w.node-is (ap (node_with n) (move_skip Change.Load owner n i here-now told own w.if-owns.false) ∙ loop.loop-i.invariant.2),
-        rw w.buffer-is (rw (other_ahead l owner i here told-there own-there w.if-owns.false) at loop.loop-i.invariant.3),
+        c.if-owns.auto.node ∙ c.loop-i.invariant.0,
+        c.if-owns.auto.buffer ∙ c.loop-i.invariant.1,
+        rw w.node-is (ap (node_with n) (move_skip Change.Load owner n i here_now told own w.if-owns.false) ∙ c.loop-i.invariant.2),
+        rw w.buffer-is (rw (other_ahead l owner i here told_there own_there w.if-owns.false) at c.loop-i.invariant.3),
       )
     ]
 
 pub returns : goal.returns
 unfolding written
 returns c =
-    let loop = c in
-    let args = loop.args in
-    let n = node_of loop.loop-i.node in
+    let args = c.args in
+    let n = node_of c.loop-i.node in
     let owner = Owner.Frame args.frame in
     let past = same_end (goal.at.returns c).At-loop-i in (
-      ap (node_with n) (sym (move_end Change.Load owner n loop.loop-i.i (rw (same_layout (goal.at.returns c).At-loop-i) (omega (arith, past))))) ∙ loop.loop-i.invariant.2,
-      rw (last_ahead (layout_of args.node.now) owner loop.loop-i.i (omega (arith, past))) at loop.loop-i.invariant.3,
+      ap (node_with n) (sym (move_end Change.Load owner n c.loop-i.i (rw (same_layout (goal.at.returns c).At-loop-i) (omega (arith, past))))) ∙ c.loop-i.invariant.2,
+      rw (last_ahead (layout_of args.node.now) owner c.loop-i.i (omega (arith, past))) at c.loop-i.invariant.3,
     )

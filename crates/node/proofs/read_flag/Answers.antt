@@ -22,8 +22,7 @@ returns-then-answer-ne0 c =
 in_cell : (c : Else-answer-ne0) → c.args.message < 32
 unfolding flag_answer
 in_cell c =
-    let start = c in
-    in_memory start.args.message (layout_of start.args.node.now).message_number _ _ (sym c.flag_answer-answer.ensures ∙ c.if-answer-ne0.false)
+    in_memory c.args.message (layout_of c.args.node.now).message_number _ _ (sym c.flag_answer-answer.ensures ∙ c.if-answer-ne0.false)
 
 pub overflow_cast-message : goal.overflow_cast-message
 overflow_cast-message c = omega (arith, in_cell c)

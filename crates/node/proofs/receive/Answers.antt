@@ -34,11 +34,8 @@ state_at-s-requires c = (in_cell (goal.at.state_at-s-requires c).Else-answer-ne0
 pub returns : goal.returns
 unfolding received_place
 returns c =
-    let state = c in
-    let message = state in
-    let asked = message in
-    let answer = sym asked.receive_answer-answer.ensures ∙ message.if-answer-ne0.false in (
+    let answer = sym c.receive_answer-answer.ensures ∙ c.if-answer-ne0.false in (
       sym answer,
-      rw (answer, ← message.message_at-g.ensures, ← state.state_at-s.ensures)
+      rw (answer, ← c.message_at-g.ensures, ← c.state_at-s.ensures)
           (to_z-of_z w64 c.value_of.result (record { sfits = c.value_of.type_inv }) ∙ c.value_of.ensures),
     )

@@ -24,8 +24,7 @@ returns-then-not-has_message c = rw (rw c.has_message.ensures at c.if-not-has_me
 -- past the first test the message has a cell in the memory
 in_cell : (c : Else-not-has_message) → (c.args.message < 32) × (length c.args.node.now ≡ node_size)
 in_cell c =
-    let start = c in
-    (counted start.args.message (layout_of start.args.node.now).message_number c.has_message.ensures c.if-not-has_message.false-raw, start.requires)
+    (counted c.args.message (layout_of c.args.node.now).message_number c.has_message.ensures c.if-not-has_message.false-raw, c.requires)
 
 pub message_at-g-requires : goal.message_at-g-requires
 message_at-g-requires c = in_cell c
@@ -33,8 +32,7 @@ message_at-g-requires c = in_cell c
 pub returns-then-g-eq1 : goal.returns-then-g-eq1
 unfolding receive_answer
 returns-then-g-eq1 c =
-    let read = c in
-    rw (known (goal.at.returns-then-g-eq1 c).Else-not-has_message, ← read.message_at-g.ensures, eq-eqb _ _ c.if-g-eq1.true) refl
+    rw (known (goal.at.returns-then-g-eq1 c).Else-not-has_message, ← c.message_at-g.ensures, eq-eqb _ _ c.if-g-eq1.true) refl
 
 pub state_at-s-requires : goal.state_at-s-requires
 state_at-s-requires c = in_cell (goal.at.state_at-s-requires c).Else-not-has_message
@@ -42,6 +40,4 @@ state_at-s-requires c = in_cell (goal.at.state_at-s-requires c).Else-not-has_mes
 pub returns : goal.returns
 unfolding receive_answer
 returns c =
-    let test = c in
-    let read = test in
-    rw (known (goal.at.returns c).Else-not-has_message, ← read.message_at-g.ensures, ne_eqb _ _ test.if-g-eq1.false, ← c.state_at-s.ensures) refl
+    rw (known (goal.at.returns c).Else-not-has_message, ← c.message_at-g.ensures, ne_eqb _ _ c.if-g-eq1.false, ← c.state_at-s.ensures) refl

@@ -36,8 +36,7 @@ accepted c = sym (rw (to_z-of_z w64 c.args.value c.ranges.value) at c.send_answe
 in_cell : (c : Else-answer-ne0) → c.args.message < 32
 unfolding send_answer
 in_cell c =
-    let start = c in
-    in_memory start.args.message (layout_of start.args.node.now).message_number _ _ (accepted c)
+    in_memory c.args.message (layout_of c.args.node.now).message_number _ _ (accepted c)
 
 pub overflow_cast-owner : goal.overflow_cast-owner
 overflow_cast-owner c = omega (arith, in_cell c)
@@ -56,22 +55,14 @@ state_at-s-requires c = (in_cell (goal.at.state_at-s-requires c).Else-answer-ne0
 
 pub put_state-requires : goal.put_state-requires
 put_state-requires c =
-    let after = c in
-    let answer = after in
     (in_cell (goal.at.put_state-requires c).Else-answer-ne0, search rules)
 
 pub returns : goal.returns
 unfolding send_of
 returns c =
-    let put = c in
-    let state = put in
-    let message = state in
-    let move = message in
-    let answer = move in
-    let start = answer in
-    let m = start.args.message in
-    let read = rw (back (goal.at.returns c).Start, message.message_at-g.ensures, state.state_at-s.ensures) at put.offered_state.ensures in
-    let stays = ap (λ (k : Node). offered (message_at k.layout m) (state_at k.state m) start.args.value) move.move_fields.ensures in
-    done _ _ _ (node_of start.args.node.now) (accepted (goal.at.returns c).Else-answer-ne0)
-    (put.put_state.ensures
-    ∙ ap₂ (λ (k : Node) (s : MessageState). node_with k (with_state k.state m s)) move.move_fields.ensures (read ∙ stays))
+    let m = c.args.message in
+    let read = rw (back (goal.at.returns c).Start, c.message_at-g.ensures, c.state_at-s.ensures) at c.offered_state.ensures in
+    let stays = ap (λ (k : Node). offered (message_at k.layout m) (state_at k.state m) c.args.value) c.move_fields.ensures in
+    done _ _ _ (node_of c.args.node.now) (accepted (goal.at.returns c).Else-answer-ne0)
+    (c.put_state.ensures
+    ∙ ap₂ (λ (k : Node) (s : MessageState). node_with k (with_state k.state m s)) c.move_fields.ensures (read ∙ stays))

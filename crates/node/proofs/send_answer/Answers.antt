@@ -17,8 +17,7 @@ returns-then-not-has_message c = rw (rw c.has_message.ensures at c.if-not-has_me
 -- past the first test the message has a cell in the memory
 in_cell : (c : Else-not-has_message) → (c.args.message < 32) × (length c.args.node.now ≡ node_size)
 in_cell c =
-    let start = c in
-    (counted start.args.message (layout_of start.args.node.now).message_number c.has_message.ensures c.if-not-has_message.false-raw, start.requires)
+    (counted c.args.message (layout_of c.args.node.now).message_number c.has_message.ensures c.if-not-has_message.false-raw, c.requires)
 
 pub message_at-g-requires : goal.message_at-g-requires
 message_at-g-requires c = in_cell c
@@ -26,25 +25,18 @@ message_at-g-requires c = in_cell c
 pub returns-then-not-g : goal.returns-then-not-g
 unfolding send_answer
 returns-then-not-g c =
-    let number = c in
-    rw (rw number.has_message.ensures at number.if-not-has_message.false-raw, rw c.message_at-g.ensures at c.if-not-g.true-raw)
+    rw (rw c.has_message.ensures at c.if-not-has_message.false-raw, rw c.message_at-g.ensures at c.if-not-g.true-raw)
 
 pub returns-then-not-can_hold : goal.returns-then-not-can_hold
 unfolding send_answer
 returns-then-not-can_hold c =
-    let access = c in
-    let read = access.message_at-g.ensures in
-    let number = access in
-    let start = number in
-    rw (rw number.has_message.ensures at number.if-not-has_message.false-raw, rw read at access.if-not-g.false-raw)
-    (rw (rw (c.can_hold.ensures, read, to_z-of_z w64 start.args.value start.ranges.value) at c.if-not-can_hold.true-raw))
+    let read = c.message_at-g.ensures in
+    rw (rw c.has_message.ensures at c.if-not-has_message.false-raw, rw read at c.if-not-g.false-raw)
+    (rw (rw (c.can_hold.ensures, read, to_z-of_z w64 c.args.value c.ranges.value) at c.if-not-can_hold.true-raw))
 
 pub returns : goal.returns
 unfolding send_answer
 returns c =
-    let access = c in
-    let read = access.message_at-g.ensures in
-    let number = access in
-    let start = number in
-    rw (rw number.has_message.ensures at number.if-not-has_message.false-raw, rw read at access.if-not-g.false-raw)
-    (rw (rw (c.can_hold.ensures, read, to_z-of_z w64 start.args.value start.ranges.value) at c.if-not-can_hold.false-raw))
+    let read = c.message_at-g.ensures in
+    rw (rw c.has_message.ensures at c.if-not-has_message.false-raw, rw read at c.if-not-g.false-raw)
+    (rw (rw (c.can_hold.ensures, read, to_z-of_z w64 c.args.value c.ranges.value) at c.if-not-can_hold.false-raw))

@@ -7,8 +7,7 @@ use Rattle.own.proofs.owns.Goals as goal
 
 pub laid_at-requires : goal.laid_at-requires
 laid_at-requires c =
-    let start = c in
-    (rw c.in-Message.is at start.requires.0, start.requires.1)
+    (rw c.in-Message.is at c.requires.0, c.requires.1)
 
 pub returns-then-d-ge128 : goal.returns-then-d-ge128
 unfolding owns
@@ -17,12 +16,10 @@ returns-then-d-ge128 c = rw (c.in-Frame.is, le-ltb _ _ c.if-d-ge128.true) refl
 pub returns-in-Message : goal.returns-in-Message
 unfolding owns
 returns-in-Message c =
-    let told = c in
-    let inside = rw told.in-Message.is at told.requires.0 in
-    rw (told.in-Message.is, lt-ltb _ _ inside, c.laid_at.ensures) refl
+    let inside = rw c.in-Message.is at c.requires.0 in
+    rw (c.in-Message.is, lt-ltb _ _ inside, c.laid_at.ensures) refl
 
 pub returns-else-d-ge128 : goal.returns-else-d-ge128
 unfolding owns
 returns-else-d-ge128 c =
-    let left = c in
-    rw (left.in-Frame.is, lt-ltb _ _ left.if-d-ge128.false, c.laid_at-in-Frame.ensures) refl
+    rw (c.in-Frame.is, lt-ltb _ _ c.if-d-ge128.false, c.laid_at-in-Frame.ensures) refl

@@ -26,40 +26,38 @@ signed_test : {half : ℕ} (w : ℕ) (z : ℤ) → SFits w64 (pos half) → is_w
 unfolding in_range greatest
 signed_test {half} w z f i e = rw (not_pos half f.sfits, to_z_pos w64 half f.sfits, e, i, least_signed w)
 
-unsigned-test : {top : ℕ} (w : ℕ) (z : ℤ) → SFits w64 (pos top) → is_width w ≡ true → top ≡ 2 ^ w - 1
+unsigned_test : {top : ℕ} (w : ℕ) (z : ℤ) → SFits w64 (pos top) → is_width w ≡ true → top ≡ 2 ^ w - 1
     → le_z (pos 0) z && le_z z (to_z w64 top) ≡ in_range false w z
 unfolding in_range least greatest
-unsigned-test {top} w z f i e = rw (to_z_pos w64 top f.sfits, e, i)
+unsigned_test {top} w z f i e = rw (to_z_pos w64 top f.sfits, e, i)
 
 pub returns-then-not-width : goal.returns-then-not-width
 unfolding in_range is_width
 returns-then-not-width c =
     rw (not-true (leb 1 c.args.width && leb c.args.width 32) c.if-not-width.true-raw)
 
-is-width : (c : Else-not-width) → is_width c.args.width ≡ true
+is_width_lem : (c : Else-not-width) → is_width c.args.width ≡ true
 unfolding is_width
-is-width c = not-false (leb 1 c.args.width && leb c.args.width 32) c.if-not-width.false-raw
+is_width_lem c = not-false (leb 1 c.args.width && leb c.args.width 32) c.if-not-width.false-raw
 
 pub largest-top-requires : goal.largest-top-requires
-largest-top-requires c = (width_bounds c.args.width (is-width c)).1
+largest-top-requires c = (width_bounds c.args.width (is_width_lem c)).1
 
 pub overflow_cast-half : goal.overflow_cast-half
 overflow_cast-half c = search rules
 
 pub returns-then-signed : goal.returns-then-signed
 returns-then-signed c =
-    let s = c in
-    let w = s.args.width in
-    let i = is-width (goal.at.returns-then-signed c).Else-not-width in
-    rw (to_z-of_z w64 s.args.value s.ranges.value, c.if-signed.true)
-    (signed_test w s.args.value (overflow_cast-half c) i (omega (arith, half_power w (width_bounds w i).0, pow_pos (w - 1))))
+    let w = c.args.width in
+    let i = is_width_lem (goal.at.returns-then-signed c).Else-not-width in
+    rw (to_z-of_z w64 c.args.value c.ranges.value, c.if-signed.true)
+    (signed_test w c.args.value (overflow_cast-half c) i (omega (arith, half_power w (width_bounds w i).0, pow_pos (w - 1))))
 
 pub overflow_cast-result : goal.overflow_cast-result
 overflow_cast-result c = search rules
 
 pub returns : goal.returns
 returns c =
-    let s = c in
-    let w = s.args.width in
-    rw (to_z-of_z w64 s.args.value s.ranges.value, c.if-signed.false)
-    (unsigned-test w s.args.value (overflow_cast-result c) (is-width (goal.at.returns c).Else-not-width) c.largest-top.ensures)
+    let w = c.args.width in
+    rw (to_z-of_z w64 c.args.value c.ranges.value, c.if-signed.false)
+    (unsigned_test w c.args.value (overflow_cast-result c) (is_width_lem (goal.at.returns c).Else-not-width) c.largest-top.ensures)

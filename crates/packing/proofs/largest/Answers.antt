@@ -11,8 +11,8 @@ use Rattle.packing.proofs.largest.Goals as goal
 positive : {n : ℕ} → n ≤ 32 → 0 < 1 * 2 ^ n % 2 ^ 64
 positive {n} h = rw (power n h) (pow_pos n)
 
-ones-fit : {n : ℕ} → n ≤ 32 → 1 * 2 ^ n % 2 ^ 64 - 1 < 2 ^ 32
-ones-fit {n} h = rw (power n h) (omega (arith, pow_pos n, pow_mono h))
+ones_fit : {n : ℕ} → n ≤ 32 → 1 * 2 ^ n % 2 ^ 64 - 1 < 2 ^ 32
+ones_fit {n} h = rw (power n h) (omega (arith, pow_pos n, pow_mono h))
 
 -- the shift that the first fact is about is one by the width
 by_width : {n : ℕ} (w : ℕ) → 0 < 1 * 2 ^ n % 2 ^ 64 → n ≡ w → w ≤ 32 → 1 * 2 ^ n % 2 ^ 64 ≡ 2 ^ w
@@ -22,7 +22,7 @@ pub overflow_sub-result : goal.overflow_sub-result
 overflow_sub-result c = positive (omega arith)
 
 pub overflow_cast-result-2 : goal.overflow_cast-result-2
-overflow_cast-result-2 c = record { fits = ones-fit (omega arith) }
+overflow_cast-result-2 c = record { fits = ones_fit (omega arith) }
 
 pub returns : goal.returns
 returns c = omega (arith, by_width c.args.width (overflow_sub-result c) (omega arith) (omega arith))

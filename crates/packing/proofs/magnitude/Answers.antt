@@ -13,9 +13,9 @@ use Rattle.packing.proofs.Negation.{not_neg}
 use Rattle.packing.proofs.magnitude.Goals.{Else-value-lt0, Then-value-lt0}
 use Rattle.packing.proofs.magnitude.Goals as goal
 
-not-below : (z : ℤ) → lt_z z (pos 0) ≡ false → z ≡ pos (mag z)
-not-below (pos n) t = refl
-not-below (negsuc n) t = absurd (true≢false t)
+not_below : (z : ℤ) → lt_z z (pos 0) ≡ false → z ≡ pos (mag z)
+not_below (pos n) t = refl
+not_below (negsuc n) t = absurd (true≢false t)
 
 below : (c : Then-value-lt0) → to_z w64 ((2 ^ 64 - 1) - of_z w64 c.args.value) ≡ pos (mag c.args.value)
 below c =
@@ -26,7 +26,7 @@ above : (c : Else-value-lt0) → to_z w64 (of_z w64 c.args.value) ≡ pos (mag c
 above c =
     let z = c.args.value in
     let read = to_z-of_z w64 z c.ranges.value in
-    read ∙ not-below z (rw read at c.if-value-lt0.false)
+    read ∙ not_below z (rw read at c.if-value-lt0.false)
 
 small : (z : ℤ) → SFits w64 z → mag z < 2 ^ 64
 small z f = let h : mag z < 2 ^ 63 = f.sfits in omega arith

@@ -33,17 +33,15 @@ put_bits-requires c =
 pub returns : goal.returns
 unfolding with_replaced
 returns c =
-    let put = c in
-    let low = put in
-    let a = low.args in
+    let a = c.args in
     let first = a.start / 8 in
     let past = (a.start + a.width + 7) / 8 in
-    let k = low.low_bit_in_byte-k.result in
+    let k = c.low_bit_in_byte-k.result in
     rw (
-      put.put_bits.ensures,
+      c.put_bits.ensures,
       mask k a.width (omega arith) (omega arith),
       bits k a.width a.pattern (omega arith) (omega arith),
-      low.low_bit_in_byte-k.ensures.0,
+      c.low_bit_in_byte-k.ensures.0,
     )
     (packed_window a.big first past a.start a.width (omega arith) (omega arith) a.pattern a.frame.now
     (λ i. ((goal.at.returns c).After-low_bit_in_byte-k.type_inv.frame i).fits) (omega arith))

@@ -29,10 +29,8 @@ held c = c.magnitude.ensures ∙ ap mag (to_z-of_z w64 c.args.value c.ranges.val
 
 pub returns-then-value-lt0 : goal.returns-then-value-lt0
 returns-then-value-lt0 c =
-    let s = c in
-    rw (held (goal.at.returns-then-value-lt0 c).After-magnitude) (sym (below s.args.value (rw (to_z-of_z w64 s.args.value s.ranges.value) at c.if-value-lt0.true)))
+    rw (held (goal.at.returns-then-value-lt0 c).After-magnitude) (sym (below c.args.value (rw (to_z-of_z w64 c.args.value c.ranges.value) at c.if-value-lt0.true)))
 
 pub returns-else-value-lt0 : goal.returns-else-value-lt0
 returns-else-value-lt0 c =
-    let s = c in
-    rw (held (goal.at.returns-else-value-lt0 c).After-magnitude) (sym (above s.args.value (rw (to_z-of_z w64 s.args.value s.ranges.value) at c.if-value-lt0.false)))
+    rw (held (goal.at.returns-else-value-lt0 c).After-magnitude) (sym (above c.args.value (rw (to_z-of_z w64 c.args.value c.ranges.value) at c.if-value-lt0.false)))

@@ -26,16 +26,14 @@ returns-then-not-signed c = rw (not-true c.args.signed c.if-not-signed.true-raw)
 
 pub returns-then-width-gt32 : goal.returns-then-width-gt32
 returns-then-width-gt32 c =
-    let s = c in
-    let m = pow_mono {i = 33} {j = s.args.width} (omega arith) in
-    rw (not-false s.args.signed c.if-not-signed.false-raw)
-    (read c.args.pattern (omega arith) ∙ sym (value_low s.args.width s.args.pattern (omega arith)))
+    let m = pow_mono {i = 33} {j = c.args.width} (omega arith) in
+    rw (not-false c.args.signed c.if-not-signed.false-raw)
+    (read c.args.pattern (omega arith) ∙ sym (value_low c.args.width c.args.pattern (omega arith)))
 
 pub returns-then-pattern-top : goal.returns-then-pattern-top
 returns-then-pattern-top c =
-    let s = c in
-    rw (not-false s.args.signed c.if-not-signed.false-raw)
-    (read c.args.pattern (omega arith) ∙ sym (value_low s.args.width s.args.pattern (omega (arith, pow_pos s.args.width))))
+    rw (not-false c.args.signed c.if-not-signed.false-raw)
+    (read c.args.pattern (omega arith) ∙ sym (value_low c.args.width c.args.pattern (omega (arith, pow_pos c.args.width))))
 
 -- the number that is taken off, one more than the largest of the width
 power : (c : Else-pattern-top) → to_z w64 c.largest-top.result +ℤ pos 1 ≡ pos (2 ^ c.args.width)
@@ -45,22 +43,21 @@ power c =
     let e : c.largest-top.result + 1 ≡ 2 ^ w = omega (arith, pow_pos w) in
     rw (to_z_pos w64 c.largest-top.result (omega arith)) (ap pos e)
 
-power-near : (c : Else-pattern-top) → 2 ^ c.args.width ≤ 2 ^ 40
-power-near c = pow_mono {j = 40} (omega arith)
+power_near : (c : Else-pattern-top) → 2 ^ c.args.width ≤ 2 ^ 40
+power_near c = pow_mono {j = 40} (omega arith)
 
 pub overflow_add-result : goal.overflow_add-result
-overflow_add-result c = rw (power c) (small_fits _ (power-near c))
+overflow_add-result c = rw (power c) (small_fits _ (power_near c))
 
 difference : (c : Else-pattern-top) →
     let a = c.args in
     to_z w64 a.pattern -ℤ to_z w64 (of_z w64 (to_z w64 c.largest-top.result +ℤ pos 1)) ≡ value_of a.signed a.width a.pattern
 unfolding value_of
 difference c =
-    let s = c in
-    let a = s.args in
+    let a = c.args in
     rw (
       power c,
-      back (pos (2 ^ a.width)) (power-near c),
+      back (pos (2 ^ a.width)) (power_near c),
       read a.pattern (omega arith),
       not-false a.signed c.if-not-signed.false-raw,
       le-ltb (a.pattern * 2) (2 ^ a.width) (omega arith),

@@ -26,9 +26,8 @@ here c = from_on _ _ _ _ c.loop-k.invariant.0 ∙ rw c.byte.ensures refl
 
 pub returns-then-not-byte : goal.returns-then-not-byte
 returns-then-not-byte c =
-    let a = c in
     let wrong = here (goal.at.returns-then-not-byte c).After-byte ∙ if_holds _ Fault.Reserved c.if-not-byte.true-raw in
-    rw a.in-None.is (wrong_lowest _ _ a.loop-k.invariant.2 wrong c.loop-k-test.true refl)
+    rw c.in-None.is (wrong_lowest _ _ c.loop-k.invariant.2 wrong c.loop-k-test.true refl)
 
 pub loop-k-preserved : goal.loop-k-preserved
 loop-k-preserved c =

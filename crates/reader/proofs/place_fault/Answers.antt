@@ -84,34 +84,31 @@ returns-then-past_end-runs_meet c = rw (kind (goal.at.returns-then-past_end-runs
 
 pub is_used-requires : goal.is_used-requires
 is_used-requires c =
-    let t = c in
-    let w = t.requires in
+    let w = c.requires in
     let k = kind (goal.at.is_used-requires c).Else-not-byte in
-    rw (t.message_run-a.ensures, field_read _ _ t.bytes-own.ensures t.field_at-r.ensures) (w.3.frame k, w.3.width_to k, (in_row (goal.at.is_used-requires c).Else-past_end-runs_meet k (told (goal.at.is_used-requires c).After-runs_meet c.if-past_end-runs_meet.false)).message, w.4.size)
+    rw (c.message_run-a.ensures, field_read _ _ c.bytes-own.ensures c.field_at-r.ensures) (w.3.frame k, w.3.width_to k, (in_row (goal.at.is_used-requires c).Else-past_end-runs_meet k (told (goal.at.is_used-requires c).After-runs_meet c.if-past_end-runs_meet.false)).message, w.4.size)
 
 pub is_used-requires-2 : goal.is_used-requires-2
 is_used-requires-2 c =
-    let t = c in
-    let w = t.requires in
+    let w = c.requires in
     let k = kind (goal.at.is_used-requires-2 c).Else-not-byte in
     let one = w.3.status k in
-    rw (t.status_run-b.ensures, field_read _ _ t.bytes-own.ensures t.field_at-r.ensures) (w.3.frame k, omega arith, (in_row (goal.at.is_used-requires-2 c).Else-past_end-runs_meet k (told (goal.at.is_used-requires-2 c).After-runs_meet c.if-past_end-runs_meet.false)).status, w.4.size)
+    rw (c.status_run-b.ensures, field_read _ _ c.bytes-own.ensures c.field_at-r.ensures) (w.3.frame k, omega arith, (in_row (goal.at.is_used-requires-2 c).Else-past_end-runs_meet k (told (goal.at.is_used-requires-2 c).After-runs_meet c.if-past_end-runs_meet.false)).status, w.4.size)
 
 pub returns : goal.returns
 unfolding place_fault is_field
 returns c =
-    let t = c in
-    let a = t.args in
-    let w = t.requires in
+    let a = c.args in
+    let w = c.requires in
     let k = kind (goal.at.returns c).Else-not-byte in
     rw (
       k,
-      told (goal.at.returns c).After-runs_meet t.if-past_end-runs_meet.false,
+      told (goal.at.returns c).After-runs_meet c.if-past_end-runs_meet.false,
       ← clashes _ a.i a.c w.4 (w.3.frame k) (in_row (goal.at.returns c).Else-past_end-runs_meet k (told (goal.at.returns c).After-runs_meet c.if-past_end-runs_meet.false)).message (in_row (goal.at.returns c).Else-past_end-runs_meet k (told (goal.at.returns c).After-runs_meet c.if-past_end-runs_meet.false)).status,
       c.is_used.ensures,
       c.is_used-2.ensures,
-      t.message_run-a.ensures,
-      t.status_run-b.ensures,
-      field_read _ _ t.bytes-own.ensures t.field_at-r.ensures,
+      c.message_run-a.ensures,
+      c.status_run-b.ensures,
+      field_read _ _ c.bytes-own.ensures c.field_at-r.ensures,
     )
     refl

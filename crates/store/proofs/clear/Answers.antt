@@ -24,17 +24,14 @@ both b x y size first second =
 
 pub returns : goal.returns
 returns c =
-    let second = c in
-    let first = second in
-    let s = first in
-    let b = s.args.node.now in
+    let b = c.args.node.now in
     let zeros : List ℕ = replicate 2723 0 in
     let twos : List ℕ = replicate 128 2 in
-    let front : first.fill.new.c ≡ zeros = first.fill.ensures ∙ ap (λ (n : ℕ). replicate n 0) (length_part b 0 2723 (omega arith)) in
-    let half : List ℕ = put_mid 0 2723 b first.fill.new.c in
-    let rest : second.fill-2.new.c ≡ twos =
-    second.fill-2.ensures ∙ ap (λ (n : ℕ). replicate n 2) (length_part half 2723 128 (search rules)) in
+    let front : c.fill.new.c ≡ zeros = c.fill.ensures ∙ ap (λ (n : ℕ). replicate n 0) (length_part b 0 2723 (omega arith)) in
+    let half : List ℕ = put_mid 0 2723 b c.fill.new.c in
+    let rest : c.fill-2.new.c ≡ twos =
+    c.fill-2.ensures ∙ ap (λ (n : ℕ). replicate n 2) (length_part half 2723 128 (search rules)) in
     ap node_of
     (part_back half 2723 128 rest ∙ ap (λ (m : List ℕ). overwritten m 2723 128 twos) (part_back b 0 2723 front)
-    ∙ both b zeros twos s.requires (length-replicate {A = ℕ} 2723 0) (length-replicate {A = ℕ} 128 2))
+    ∙ both b zeros twos c.requires (length-replicate {A = ℕ} 2723 0) (length-replicate {A = ℕ} 128 2))
     ∙ nothing_read

@@ -25,12 +25,11 @@ loop-k-init c = (search rules, refl, refl, refl)
 
 pub loop-k-preserved : goal.loop-k-preserved
 loop-k-preserved c =
-    let loop = c in
-    let a = loop.args in (
+    let a = c.args in (
       search rules,
       refl,
       simp length-set (omega arith),
-      turn a.to.now a.from.now loop.loop-k.to loop.loop-k.k (omega arith) (omega arith) loop.loop-k.invariant.3,
+      turn a.to.now a.from.now c.loop-k.to c.loop-k.k (omega arith) (omega arith) c.loop-k.invariant.3,
     )
 
 pub returns : goal.returns

@@ -10,9 +10,8 @@ use Rattle.store.proofs.data_at.Goals as goal
 
 pub returns : goal.returns
 returns c =
-    let s = c in
-    let node = s.args.node.now in
-    let from : ℕ = deliveries_at + s.args.f * 33 + 1 in
+    let node = c.args.node.now in
+    let from : ℕ = deliveries_at + c.args.f * 33 + 1 in
     part_lent node from c.at_most.result
     ∙ ap (part node from) c.at_most.ensures
-    ∙ sym (data_read node s.requires.1 s.args.f s.requires.0)
+    ∙ sym (data_read node c.requires.1 c.args.f c.requires.0)

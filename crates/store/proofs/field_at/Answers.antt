@@ -5,6 +5,4 @@ use Rattle.store.proofs.field_at.Goals as goal
 
 pub returns : goal.returns
 returns c =
-    let laid = c in
-    let s = laid in
-    cc (laid.laid_at-x.ensures, c.stage_of.ensures, stage_read s.args.node.now s.args.d s.requires.0)
+    cc (c.laid_at-x.ensures, c.stage_of.ensures, stage_read c.args.node.now c.args.d c.requires.0)

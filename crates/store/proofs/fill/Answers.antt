@@ -24,18 +24,16 @@ loop-i-init c = (search rules, refl, refl, refl)
 
 pub loop-i-preserved : goal.loop-i-preserved
 loop-i-preserved c =
-    let loop = c in
-    let a = loop.args in
-    let i = loop.loop-i.i in (
+    let a = c.args in
+    let i = c.loop-i.i in (
       search rules,
       refl,
       simp length-set (omega arith),
-      ap (λ (l : List ℕ). set l i a.k) loop.loop-i.invariant.3 ∙ turn a.c.now a.k i (omega arith),
+      ap (λ (l : List ℕ). set l i a.k) c.loop-i.invariant.3 ∙ turn a.c.now a.k i (omega arith),
     )
 
 pub returns : goal.returns
 returns c =
-    let loop = c in
-    let a = loop.args in
-    let e : loop.loop-i.i ≡ length a.c.now = omega arith in
-    loop.loop-i.invariant.3 ∙ ap (filled_to a.c.now a.k) e ∙ filled a.c.now a.k
+    let a = c.args in
+    let e : c.loop-i.i ≡ length a.c.now = omega arith in
+    c.loop-i.invariant.3 ∙ ap (filled_to a.c.now a.k) e ∙ filled a.c.now a.k

@@ -9,8 +9,7 @@ use Rattle.store.proofs.frame_at.Goals as goal
 
 pub returns : goal.returns
 returns c =
-    let s = c in
-    let node = s.args.node.now in
+    let node = c.args.node.now in
     c.read_frame.ensures
-    ∙ ap frame_of (part_lent node (frames_at + s.args.f * 6) 6)
-    ∙ sym (frame_read node s.args.f s.requires.0)
+    ∙ ap frame_of (part_lent node (frames_at + c.args.f * 6) 6)
+    ∙ sym (frame_read node c.args.f c.requires.0)

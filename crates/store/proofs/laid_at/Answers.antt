@@ -9,8 +9,7 @@ use Rattle.store.proofs.laid_at.Goals as goal
 
 pub returns : goal.returns
 returns c =
-    let s = c in
-    let node = s.args.node.now in
+    let node = c.args.node.now in
     c.read_laid.ensures
-    ∙ ap laid_of (part_lent node (fields_at + s.args.d * 5) 5)
-    ∙ sym (laid_read node s.args.d s.requires.0)
+    ∙ ap laid_of (part_lent node (fields_at + c.args.d * 5) 5)
+    ∙ sym (laid_read node c.args.d c.requires.0)

@@ -9,8 +9,7 @@ use Rattle.store.proofs.message_at.Goals as goal
 
 pub returns : goal.returns
 returns c =
-    let s = c in
-    let node = s.args.node.now in
+    let node = c.args.node.now in
     c.read_message.ensures
-    ∙ ap message_of (part_lent node (messages_at + s.args.m * 16) 16)
-    ∙ sym (message_read node s.args.m s.requires.0)
+    ∙ ap message_of (part_lent node (messages_at + c.args.m * 16) 16)
+    ∙ sym (message_read node c.args.m c.requires.0)

@@ -15,10 +15,9 @@ use Rattle.store.proofs.put_data.Goals as goal
 
 pub returns : goal.returns
 returns c =
-    let s = c in
-    let node = s.args.node.now in
-    let bytes = s.args.bytes.now in
-    let f = s.args.f in
+    let node = c.args.node.now in
+    let bytes = c.args.bytes.now in
+    let f = c.args.f in
     let at : ℕ = deliveries_at + f * 33 in
     let cell : List ℕ = part node at 33 in
     let size : length cell ≡ 33 = length_part node at 33 (omega arith) in
@@ -30,7 +29,7 @@ returns c =
     cc (
       part_back node (at + 1) 32 copied,
       over_within node at 33 1 32 new (omega arith) (omega arith),
-      delivery_written node s.requires.2 f (overwritten cell 1 32 new) s.requires.0 (length_over cell 1 32 new (omega arith) room ∙ size),
+      delivery_written node c.requires.2 f (overwritten cell 1 32 new) c.requires.0 (length_over cell 1 32 new (omega arith) room ∙ size),
       delivery_filled cell bytes size,
-      delivery_read node f s.requires.0,
+      delivery_read node f c.requires.0,
     )

@@ -9,12 +9,11 @@ use Rattle.store.proofs.put_frame.Goals as goal
 
 pub returns : goal.returns
 returns c =
-    let s = c in
-    let node = s.args.node.now in
-    let f = s.args.f in
-    let h = s.args.h in
+    let node = c.args.node.now in
+    let f = c.args.f in
+    let h = c.args.h in
     cc (
       part_back node (frames_at + f * 6) 6 c.write_frame.ensures,
-      frame_written node s.requires.1 f (frame_bytes h) s.requires.0 (frame_size h),
+      frame_written node c.requires.1 f (frame_bytes h) c.requires.0 (frame_size h),
       frame_decoded h,
     )

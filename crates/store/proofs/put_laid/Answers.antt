@@ -9,12 +9,11 @@ use Rattle.store.proofs.put_laid.Goals as goal
 
 pub returns : goal.returns
 returns c =
-    let s = c in
-    let node = s.args.node.now in
-    let d = s.args.d in
-    let x = s.args.x in
+    let node = c.args.node.now in
+    let d = c.args.d in
+    let x = c.args.x in
     cc (
       part_back node (fields_at + d * 5) 5 c.write_laid.ensures,
-      laid_written node s.requires.1 d (laid_bytes x) s.requires.0 (laid_size x),
+      laid_written node c.requires.1 d (laid_bytes x) c.requires.0 (laid_size x),
       laid_decoded x,
     )

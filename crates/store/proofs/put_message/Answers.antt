@@ -10,12 +10,11 @@ use Rattle.store.proofs.put_message.Goals as goal
 
 pub returns : goal.returns
 returns c =
-    let s = c in
-    let node = s.args.node.now in
-    let m = s.args.m in
-    let g = s.args.g in
+    let node = c.args.node.now in
+    let m = c.args.m in
+    let g = c.args.g in
     cc (
       part_back node (messages_at + m * 16) 16 c.write_message.ensures,
-      message_written node s.requires.1 m (message_bytes g) s.requires.0 (message_size g),
+      message_written node c.requires.1 m (message_bytes g) c.requires.0 (message_size g),
       message_decoded g (omega arith) (omega arith),
     )

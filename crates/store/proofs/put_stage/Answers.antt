@@ -6,6 +6,5 @@ use Rattle.store.proofs.put_stage.Goals as goal
 
 pub returns : goal.returns
 returns c =
-    let s = c in
-    let a = s.args in
-    cc (c.code_of.ensures, stage_written a.node.now s.requires.2 a.d (code_of a.s) s.requires.0, s.requires.1)
+    let a = c.args in
+    cc (c.code_of.ensures, stage_written a.node.now c.requires.2 a.d (code_of a.s) c.requires.0, c.requires.1)

@@ -10,12 +10,11 @@ use Rattle.store.proofs.put_state.Goals as goal
 
 pub returns : goal.returns
 returns c =
-    let s = c in
-    let node = s.args.node.now in
-    let m = s.args.m in
-    let x = s.args.s in
+    let node = c.args.node.now in
+    let m = c.args.m in
+    let x = c.args.s in
     cc (
       part_back node (states_at + m * state_size) state_size c.write_state.ensures,
-      state_written node s.requires.1 m (message_state_bytes x) s.requires.0 (state_size_lem x),
+      state_written node c.requires.1 m (message_state_bytes x) c.requires.0 (state_size_lem x),
       state_decoded x (omega arith),
     )

@@ -9,8 +9,7 @@ use Rattle.store.proofs.state_at.Goals as goal
 
 pub returns : goal.returns
 returns c =
-    let s = c in
-    let node = s.args.node.now in
+    let node = c.args.node.now in
     c.read_state.ensures
-    ∙ ap message_state_of (part_lent node (states_at + s.args.m * state_size) state_size)
-    ∙ sym (state_read node s.args.m s.requires.0)
+    ∙ ap message_state_of (part_lent node (states_at + c.args.m * state_size) state_size)
+    ∙ sym (state_read node c.args.m c.requires.0)

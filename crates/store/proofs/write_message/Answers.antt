@@ -24,11 +24,8 @@ bounds-c-7 c = simp length-set (omega arith)
 pub returns : goal.returns
 unfolding message_bytes
 returns c =
-    let second = c in
-    let first = second in
-    let e = first in
-    let g = e.args.g in
+    let g = c.args.g in
     let leading : List ℕ = g.width ∷ g.sign ∷ g.direction ∷ g.agreement ∷ g.filter ∷ g.statusbit ∷ g.first ∷ g.fields ∷ [] in
-    let bytes = written_first e.args.c.now leading e.requires (omega arith) in
-    let word = written_next bytes first.write_word.ensures (omega arith) in
-    written_all (written_next word second.write_word-2.ensures (omega arith)) refl
+    let bytes = written_first c.args.c.now leading c.requires (omega arith) in
+    let word = written_next bytes c.write_word.ensures (omega arith) in
+    written_all (written_next word c.write_word-2.ensures (omega arith)) refl

@@ -11,9 +11,7 @@ use Rattle.store.proofs.write_state.Goals as goal
 pub returns : goal.returns
 unfolding message_state_bytes
 returns c =
-    let word = c in
-    let e = word in
-    let s = e.args.s in
+    let s = c.args.s in
     let leading : List ℕ = s.valid ∷ s.status ∷ [] in
-    let bytes = written_first e.args.c.now leading e.requires (omega arith) in
-    written_all (written_next bytes word.write_word.ensures (omega arith)) refl
+    let bytes = written_first c.args.c.now leading c.requires (omega arith) in
+    written_all (written_next bytes c.write_word.ensures (omega arith)) refl

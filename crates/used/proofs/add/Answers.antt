@@ -5,6 +5,5 @@ use Rattle.used.proofs.add.Goals as goal
 
 pub returns : goal.returns
 returns c =
-    let s = c in
-    let a = s.args in
-    came_back a.table.now a.f a.a s.requires.0 s.requires.1 s.requires.2 s.requires.3 c.pack.ensures
+    let a = c.args in
+    came_back a.table.now a.f a.a c.requires.0 c.requires.1 c.requires.2 c.requires.3 c.pack.ensures

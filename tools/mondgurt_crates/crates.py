@@ -57,7 +57,7 @@ def read_crates(root: Path) -> list[Crate]:
     """The crates of crates.txt, in its order, each after all that it names; or Unfit, where that is not so."""
     file = root / "crates.txt"
     lines = file.read_text(encoding="utf-8").splitlines()
-    # A static library has the word staticlib after its name.
+    # A static library has the word staticlib after its name. A line also has what its crate uses of the kit, which has no line of its own.
     listed = {head.split()[0]: rests_on for head, rests_on in (line.split(":") for line in lines if line and not line.startswith("#"))}
     crates: list[Crate] = []
     for name, rests_on in listed.items():

@@ -50,6 +50,13 @@ class Reading(Files):
         self.assertEqual(("No code: only words", False, set(), {"low"}), (words.says, words.has_code, words.calls, words.names))
         self.assertEqual((True, {"low"}, {"low", "words"}), (high.is_program, high.calls, high.names))
 
+    def test_what_a_line_has_of_the_kit_is_no_crate(self) -> None:
+        self.write("crates/high/src/main.rt", "// The program.\nuse arrayvec::ArrayVec;\nfn main() {\n    low::one();\n    itoa::Buffer::new();\n}\n")
+        self.write("crates/words/specs/Words.antt", "use Rattle.arrayvec.specs.Room.{room}\nuse Rattle.low.specs.Low.{one}\n")
+        self.write("crates.txt", "low:\nwords: arrayvec low\nhigh: itoa arrayvec low words\n")
+        named = {crate.name: (crate.calls, crate.names) for crate in read_crates(self.root)}
+        self.assertEqual({"low": (set(), set()), "words": (set(), {"low"}), "high": ({"low"}, {"low"})}, named)
+
     def test_a_crate_below_is_named(self) -> None:
         self.write("crates.txt", "low:\nhigh: low words\nwords: low\n")
         with self.assertRaisesRegex(Unfit, "high names words, which does not stand before it"):

@@ -82,7 +82,10 @@ class Archive(unittest.TestCase):
             for target in ("aarch64-linux", "aarch64-none"):
                 options = ["--oformat", "binary", "--unresolved-symbols=ignore-all", "-T", script]
                 run(TOOLCHAIN / "ld.lld", *options, ARCHIVES / target / "mondgurt.o", "-o", code)
-                unaligned[target] = sum(is_unaligned(word) for (word,) in struct.iter_unpack("<I", code.read_bytes()))
+                # The constants lie behind the code, and may end within a word.
+                read = code.read_bytes()
+                words = struct.iter_unpack("<I", read[: len(read) // 4 * 4])
+                unaligned[target] = sum(is_unaligned(word) for (word,) in words)
         self.assertGreater(unaligned["aarch64-linux"], 0)
         self.assertEqual(0, unaligned["aarch64-none"])
 

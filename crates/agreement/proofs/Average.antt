@@ -12,8 +12,8 @@ use native.Mathlib.Omega.{arith}
 use lib.IntN.{ℤ, pos, nat_abs, ◌+ℤ◌, ◌*ℤ◌, +ℤ_comm, suc_ℤ-*ℤ, zero-*ℤ}
 use lib.ListN.{length}
 use lib.Signed.{le_z}
+use Rattle.std.specs.Prelude.{Some}
 use Rattle.whole.specs.Whole.{all_of}
-use Rattle.agreement.specs.declared.Agreed.TheVariants.{Value}
 use Rattle.agreement.specs.Agreement.{sum_of, mean_of, between, message_values, average}
 use Rattle.agreement.proofs.MessageValues.{no_mean, has_mean}
 use Rattle.agreement.proofs.Quotient.{sum_order, quotient_toward_zero, quotient_exact, quotient_order}
@@ -63,9 +63,9 @@ mean_between lo hi l p t =
 
 -- ---- one to eight instances that messages hold have an average, and nothing else has
 
-pub average_value : (l : List ℤ) (v : ℤ) → (average l ≡ Value v) ↔ ((message_values l ≡ true) × (v ≡ mean_of l))
+pub average_value : (l : List ℤ) (v : ℤ) → (average l ≡ Some v) ↔ ((message_values l ≡ true) × (v ≡ mean_of l))
 average_value l v = (go (message_values l) refl, λ h. let f = has_mean l h.0 in cc)
   where
-    go : (t : Bool) → message_values l ≡ t → average l ≡ Value v → (message_values l ≡ true) × (v ≡ mean_of l)
+    go : (t : Bool) → message_values l ≡ t → average l ≡ Some v → (message_values l ≡ true) × (v ≡ mean_of l)
     go true g e = let f = has_mean l g in (g, cc)
     go false g e = let f = no_mean l g in let z : ◌≡◌ {A = ℕ} 0 1 = cc in absurd (omega arith)

@@ -11,10 +11,9 @@ use native.Mathlib.Omega.{arith}
 use native.Mathlib.Decide.{dec_lt}
 use lib.IntN.{ℤ, pos, ℤ_discrete}
 use lib.ListN.{length, drop, get_or, length-drop}
+use Rattle.std.specs.Prelude.{Option, Some, None}
 use Rattle.whole.specs.Whole.{eq_z}
 use Rattle.whole.proofs.Integers.{eq_z_same, eq_z_other}
-use Rattle.agreement.specs.declared.Agreed.{Agreed}
-use Rattle.agreement.specs.declared.Agreed.TheVariants.{Value, NoResult}
 use Rattle.agreement.specs.Agreement.{count_of, Ahead, vote}
 use Rattle.agreement.proofs.Turns.{count_turn}
 use Rattle.agreement.proofs.Vote.{Outcome, outcome, one_outcome, ahead_carried}
@@ -43,15 +42,15 @@ abbrev Met : List ℤ → ℕ → ℤ → Type 0
 Met l i u = count_of u (drop i l) < count_of u l
 
 -- v is one of them, carried by `most`, and each other by fewer; or whoever is ahead of all is carried by more than `most`, and so is none of them
-abbrev SoFar : List ℤ → ℕ → ℕ → Agreed → Type 0
-SoFar l i most (Value v) = Met l i v × (count_of v l ≡ most) × ((u : ℤ) → Met l i u → (u ≡ v → ⊥) → count_of u l < most)
-SoFar l i most NoResult = (v : ℤ) → Ahead l v → most < count_of v l
+abbrev SoFar : List ℤ → ℕ → ℕ → Option ℤ → Type 0
+SoFar l i most (Some v) = Met l i v × (count_of v l ≡ most) × ((u : ℤ) → Met l i u → (u ≡ v → ⊥) → count_of u l < most)
+SoFar l i most None = (v : ℤ) → Ahead l v → most < count_of v l
 
 -- none of them is carried by more than `most` instances, and r is what they come to so far
-abbrev pub Counted : List ℤ → ℕ → ℕ → Agreed → Type 0
+abbrev pub Counted : List ℤ → ℕ → ℕ → Option ℤ → Type 0
 Counted l i most r = ((u : ℤ) → Met l i u → count_of u l ≤ most) × SoFar l i most r
 
-pub none_counted : (l : List ℤ) → Counted l 0 0 NoResult
+pub none_counted : (l : List ℤ) → Counted l 0 0 None
 none_counted l = (λ u m. omega arith, ahead_carried l)
 
 -- where two values are carried by m instances, whoever is ahead is carried by more
@@ -64,7 +63,7 @@ two_as_many l a b m n p q v ahead = go (ℤ_discrete a v)
 
 -- ---- a turn: the value here of instance i, with so many of it left
 
-module _ (l : List ℤ) (i most : ℕ) (r : Agreed) (h : i < length l) (so_far : Counted l i most r) where
+module _ (l : List ℤ) (i most : ℕ) (r : Option ℤ) (h : i < length l) (so_far : Counted l i most r) where
   abbrev here : ℤ
   here = get_or l i (pos 0)
 
@@ -90,24 +89,24 @@ module _ (l : List ℤ) (i most : ℕ) (r : Agreed) (h : i < length l) (so_far :
       go (yes m) = absurd (omega (arith, so_far.0 here m))
       go (no n) = omega (arith, count_left here l i)
 
-  pub more : most < left → Counted l (i + 1) left (Value here)
+  pub more : most < left → Counted l (i + 1) left (Some here)
   more k =
       let all = all_left (omega arith) in (
         each (λ u. count_of u l ≤ left) (omega arith) (λ u m. omega (arith, so_far.0 u m)),
         (met_here, all, each (λ u. (u ≡ here → ⊥) → count_of u l < left) (λ n. absurd (n refl)) (λ u m n. omega (arith, so_far.0 u m))),
       )
 
-  tied : (s : Agreed) → SoFar l i most s → count_of here l ≡ most → left ≡ most → SoFar l (i + 1) most NoResult
-  tied (Value v) before all k = two_as_many l here v most (λ e. omega (arith, rw (← e) at before.0)) all before.1
-  tied NoResult before all k = before
+  tied : (s : Option ℤ) → SoFar l i most s → count_of here l ≡ most → left ≡ most → SoFar l (i + 1) most None
+  tied (Some v) before all k = two_as_many l here v most (λ e. omega (arith, rw (← e) at before.0)) all before.1
+  tied None before all k = before
 
-  pub as_many : left ≡ most → Counted l (i + 1) most NoResult
+  pub as_many : left ≡ most → Counted l (i + 1) most None
   as_many k =
       let all = all_left (omega arith) in
       (each (λ u. count_of u l ≤ most) (omega arith) so_far.0, tied r so_far.1 (omega arith) k)
 
-  kept : (s : Agreed) → SoFar l i most s → left < most → SoFar l (i + 1) most s
-  kept (Value v) before k = (
+  kept : (s : Option ℤ) → SoFar l i most s → left < most → SoFar l (i + 1) most s
+  kept (Some v) before k = (
     omega (arith, before.0, count_turn l i h v),
     before.1,
     each (λ u. (u ≡ v → ⊥) → count_of u l < most) (go (dec_lt left (count_of here l))) before.2,
@@ -116,7 +115,7 @@ module _ (l : List ℤ) (i most : ℕ) (r : Agreed) (h : i < length l) (so_far :
       go : Dec (Met l i here) → (here ≡ v → ⊥) → count_of here l < most
       go (yes m) = before.2 here m
       go (no m) = λ n. omega arith
-  kept NoResult before k = before
+  kept None before k = before
 
   pub fewer : left < most → Counted l (i + 1) most r
   fewer k = (each (λ u. count_of u l ≤ most) (go (dec_lt left (count_of here l))) so_far.0, kept r so_far.1 k)
@@ -133,17 +132,17 @@ module _ (l : List ℤ) (i most : ℕ) (few : (length l ≤ i) ⊎ (length l - i
       let all-of-them = rw length-drop at (count_length u (drop i l)) in
       ⊎_elim (λ k. inl (omega arith)) (λ k. inr (omega arith)) few
 
-  decided : (r : Agreed) → Counted l i most r → Outcome l r
-  decided (Value v) so_far = λ u n. go u n (dec_lt (count_of u (drop i l)) (count_of u l))
+  decided : (r : Option ℤ) → Counted l i most r → Outcome l r
+  decided (Some v) so_far = λ u n. go u n (dec_lt (count_of u (drop i l)) (count_of u l))
     where
       go : (u : ℤ) → (u ≡ v → ⊥) → Dec (Met l i u) → count_of u l < count_of v l
       go u n (yes m) = omega (arith, so_far.1.2 u m n)
       go u n (no m) = ⊎_elim (λ k. omega (arith, so_far.1)) (λ k. omega (arith, so_far.1)) (not_met u m)
-  decided NoResult so_far = λ v ahead. go v (so_far.1 v ahead) (dec_lt (count_of v (drop i l)) (count_of v l))
+  decided None so_far = λ v ahead. go v (so_far.1 v ahead) (dec_lt (count_of v (drop i l)) (count_of v l))
     where
       go : (v : ℤ) → most < count_of v l → Dec (Met l i v) → ⊥
       go v h (yes m) = omega (arith, so_far.0 v m)
       go v h (no m) = ⊎_elim (λ k. omega arith) (λ k. omega arith) (not_met v m)
 
-  pub counted_vote : (r : Agreed) → Counted l i most r → r ≡ vote l
+  pub counted_vote : (r : Option ℤ) → Counted l i most r → r ≡ vote l
   counted_vote r so_far = one_outcome l r (vote l) (decided r so_far) (outcome l)

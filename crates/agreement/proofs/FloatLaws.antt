@@ -8,12 +8,12 @@ use native.Mathlib.Omega.{arith}
 use lib.IntN.{ℤ, pos}
 use lib.ListN.{length, length-append}
 use borrow.Author.Tests.{le-leb, not-true}
+use Rattle.std.specs.Prelude.{Some}
 use Rattle.whole.specs.Whole.{all_of}
 use Rattle.whole.proofs.Integers.{eq_z_same}
 use Rattle.packing.specs.Values.{pattern_of}
 use Rattle.float.specs.Patterns.{aside}
 use Rattle.float.proofs.Itself.{over_one}
-use Rattle.agreement.specs.declared.Agreed.TheVariants.{Value}
 use Rattle.agreement.specs.Agreement.{ahead, one_that, vote}
 use Rattle.agreement.specs.Floats.{left_of, sum_from, finite_value, float_mean, left_agreed, floats_agreed}
 use Rattle.agreement.specs.Claims.{FloatClaims}
@@ -41,7 +41,7 @@ fewer l m v h = rw length-append (omega (arith, rw length-append at h))
 
 -- ---- one alone
 
-one_alone : (k : ℕ) → k < 3 → (x : ℕ) → x < 2 ^ 32 → aside x ≡ false → left_agreed k (pos x ∷ []) ≡ Value (pos x)
+one_alone : (k : ℕ) → k < 3 → (x : ℕ) → x < 2 ^ 32 → aside x ≡ false → left_agreed k (pos x ∷ []) ≡ Some (pos x)
 unfolding left_agreed float_mean sum_from finite_value vote one_that ahead all_of
 one_alone zero h x X a = refl
 one_alone (suc zero) h x X a = rw (pattern_back x X, over_one x X a, a) refl

@@ -1,5 +1,5 @@
--- Instances that messages hold: their tests as the code has them, their parts, how far from zero they lie, and that they have a mean and nothing else
--- has. The code tests for what lies outside two bounds, and to lie between them is to lie on neither outer side.
+-- Instances that messages hold: the test of their number as the code has it, their parts, how far from zero they lie, and that they have a mean and
+-- nothing else has. The code tests for what lies outside two bounds, and to lie between them is to lie on neither outer side.
 -- Assumes nothing.
 use mathlib.Core.Path.{◌≡◌, refl, ap, ap₂, ◌∙◌}
 use mathlib.Core.Bool.{Bool, true, false, ◌&&◌, ◌||◌, not, and-eq-true_iff}
@@ -7,13 +7,13 @@ use mathlib.Core.List.{List, [], ◌∷◌}
 use Prim.Native.Nat.{ℕ, zero, suc, ◌-◌, ◌<◌, ◌≤◌, ◌^◌}
 use native.Mathlib.Omega.{arith}
 use lib.Dec.{ltb, leb}
-use lib.IntN.{ℤ, pos, negsuc, neg_ℤ, nat_abs}
+use lib.IntN.{ℤ, pos, negsuc, nat_abs}
 use lib.ListN.{length, get_or}
 use lib.Signed.{lt_z}
 use borrow.Author.Tests.{leb-true}
+use Rattle.std.specs.Prelude.{Some, None}
 use Rattle.whole.specs.Whole.{all_of}
 use Rattle.whole.proofs.Integers.{at_most_lem}
-use Rattle.agreement.specs.declared.Agreed.TheVariants.{Value, NoResult}
 use Rattle.agreement.specs.Agreement.{mean_of, between, message_value, message_values, average}
 
 -- ---- between two bounds
@@ -26,10 +26,6 @@ between_test lo hi v = ap₂ ◌&&◌ (at_most_lem lo v) (at_most_lem v hi) ∙ 
     neither false b = refl
 
 -- ---- a message's values
-
-pub value_test : (v : ℤ) → message_value v ≡ not (lt_z v (neg_ℤ (pos (2 ^ 31))) || lt_z (pos (2 ^ 32 - 1)) v)
-unfolding message_value
-value_test v = between_test (neg_ℤ (pos (2 ^ 31))) (pos (2 ^ 32 - 1)) v
 
 pub value_small : (v : ℤ) → message_value v ≡ true → nat_abs v ≤ 2 ^ 32
 unfolding message_value
@@ -58,10 +54,10 @@ values_parts l t =
 
 -- ---- they have a mean, and nothing else has
 
-pub no_mean : (l : List ℤ) → message_values l ≡ false → NoResult ≡ average l
+pub no_mean : (l : List ℤ) → message_values l ≡ false → None ≡ average l
 unfolding average
 no_mean l t = rw t refl
 
-pub has_mean : (l : List ℤ) → message_values l ≡ true → Value (mean_of l) ≡ average l
+pub has_mean : (l : List ℤ) → message_values l ≡ true → Some (mean_of l) ≡ average l
 unfolding average
 has_mean l t = rw t refl

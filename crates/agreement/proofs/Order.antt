@@ -8,9 +8,8 @@ use Prim.Native.Nat.{suc, ◌+◌}
 use native.Mathlib.Omega.{arith}
 use lib.IntN.{ℤ, ◌+ℤ◌}
 use lib.ListN.{length}
+use Rattle.std.specs.Prelude.{Option, Some, None}
 use Rattle.whole.specs.Whole.{eq_z, all_of}
-use Rattle.agreement.specs.declared.Agreed.{Agreed}
-use Rattle.agreement.specs.declared.Agreed.TheVariants.{Value, NoResult}
 use Rattle.agreement.specs.Agreement.{count_of, sum_of, mean_of, message_value, message_values, average, vote}
 use Rattle.agreement.proofs.Quotient.{exchange}
 use Rattle.agreement.proofs.Vote.{Outcome, outcome, one_outcome}
@@ -55,9 +54,9 @@ perm_all (Permᴰ.trans p q) t = perm_all p t ∙ perm_all q t
 pub perm_vote : {l m : List ℤ} → Perm l m → vote l ≡ vote m
 perm_vote {l} {m} p = one_outcome m (vote l) (vote m) (moved (vote l) (outcome l)) (outcome m)
   where
-    moved : (r : Agreed) → Outcome l r → Outcome m r
-    moved (Value v) h = λ u n. omega (arith, h u n, perm_count p u, perm_count p v)
-    moved NoResult h = λ v k. h v (λ u n. omega (arith, k u n, perm_count p u, perm_count p v))
+    moved : (r : Option ℤ) → Outcome l r → Outcome m r
+    moved (Some v) h = λ u n. omega (arith, h u n, perm_count p u, perm_count p v)
+    moved None h = λ v k. h v (λ u n. omega (arith, k u n, perm_count p u, perm_count p v))
 
 pub perm_average : {l m : List ℤ} → Perm l m → average l ≡ average m
 unfolding average message_values mean_of

@@ -9,36 +9,36 @@ use native.Mathlib.Nat.{mod-eq_of_lt}
 use lib.Dec.{leb}
 use lib.IntN.{ℤ, pos}
 use lib.ListN.{length}
+use Rattle.std.specs.Prelude.{Some, None}
 use Rattle.whole.specs.Whole.{all_of}
 use Rattle.packing.specs.Values.{pattern_of}
 use Rattle.float.specs.Patterns.{aside}
 use Rattle.float.specs.Rounding.{over}
 use Rattle.float.proofs.Itself.{over_small}
-use Rattle.agreement.specs.declared.Agreed.TheVariants.{Value, NoResult}
 use Rattle.agreement.specs.Agreement.{pick_any, ahead, one_that, vote}
 use Rattle.agreement.specs.Floats.{left_of, sum_from, finite_value, float_mean, left_agreed, floats_agreed}
 
 -- what a search finds passes each test that all pass
-found_passes : (q p : ℤ → Bool) (l : List ℤ) (v : ℤ) → all_of q l ≡ true → one_that p l ≡ Value v → q v ≡ true
+found_passes : (q p : ℤ → Bool) (l : List ℤ) (v : ℤ) → all_of q l ≡ true → one_that p l ≡ Some v → q v ≡ true
 unfolding all_of one_that
 found_passes q p [] v t e = cc
 found_passes q p (u ∷ l) v t e =
     let parts = (and-eq-true_iff (q u) (all_of q l)).0 t in
     go (p u) e parts.0 (found_passes q p l v parts.1)
   where
-    go : (b : Bool) → cond b (Value u) (one_that p l) ≡ Value v → q u ≡ true → (one_that p l ≡ Value v → q v ≡ true) → q v ≡ true
+    go : (b : Bool) → cond b (Some u) (one_that p l) ≡ Some v → q u ≡ true → (one_that p l ≡ Some v → q v ≡ true) → q v ≡ true
     go true found here later = cc
     go false found here later = later found
 
 module _ (q : ℤ → Bool) where
-  pub picked_passes : (l : List ℤ) (v : ℤ) → all_of q l ≡ true → pick_any l ≡ Value v → q v ≡ true
+  pub picked_passes : (l : List ℤ) (v : ℤ) → all_of q l ≡ true → pick_any l ≡ Some v → q v ≡ true
   unfolding all_of
   picked_passes [] v t e = cc
   picked_passes (u ∷ l) v t e =
       let same : u ≡ v = cc in
       rw same at ((and-eq-true_iff (q u) (all_of q l)).0 t).0
 
-  pub voted_passes : (l : List ℤ) (v : ℤ) → all_of q l ≡ true → vote l ≡ Value v → q v ≡ true
+  pub voted_passes : (l : List ℤ) (v : ℤ) → all_of q l ≡ true → vote l ≡ Some v → q v ≡ true
   unfolding vote
   voted_passes l v t e = found_passes q (ahead l) l v t e
 
@@ -73,7 +73,7 @@ left_finite (v ∷ l) = go (aside (pattern_of 32 v)) refl (left_finite l)
     go false e rest = rw e rest
 
 module _ (q : ℤ → Bool) (finite : (x : ℕ) → x < 2 ^ 32 → aside x ≡ false → q (pos x) ≡ true) where
-  mean_passes : (l : List ℤ) (v : ℤ) → float_mean l ≡ Value v → q v ≡ true
+  mean_passes : (l : List ℤ) (v : ℤ) → float_mean l ≡ Some v → q v ≡ true
   unfolding float_mean finite_value
   mean_passes [] v e = cc
   mean_passes (u ∷ l) v e = go (aside x) refl e
@@ -81,26 +81,26 @@ module _ (q : ℤ → Bool) (finite : (x : ℕ) → x < 2 ^ 32 → aside x ≡ f
       x : ℕ
       x = over (sum_from (pattern_of 32 u) l) (length (u ∷ l))
 
-      go : (b : Bool) → aside x ≡ b → cond b NoResult (Value (pos x)) ≡ Value v → q v ≡ true
+      go : (b : Bool) → aside x ≡ b → cond b None (Some (pos x)) ≡ Some v → q v ≡ true
       go true a f = cc
       go false a f =
           let same : pos x ≡ v = cc in
           rw same at (finite x (over_small (sum_from (pattern_of 32 u) l) (length (u ∷ l)) a) a)
 
-  left_passes : (k : ℕ) (l : List ℤ) (v : ℤ) → all_of q l ≡ true → left_agreed k l ≡ Value v → q v ≡ true
+  left_passes : (k : ℕ) (l : List ℤ) (v : ℤ) → all_of q l ≡ true → left_agreed k l ≡ Some v → q v ≡ true
   unfolding left_agreed
   left_passes zero l v t e = picked_passes q l v t e
   left_passes (suc zero) l v t e = mean_passes l v e
   left_passes (suc (suc zero)) l v t e = voted_passes q l v t e
   left_passes (suc (suc (suc k))) l v t e = cc
 
-  pub floats_pass : (k : ℕ) (l : List ℤ) (v : ℤ) → all_of q (left_of l) ≡ true → floats_agreed k l ≡ Value v → q v ≡ true
+  pub floats_pass : (k : ℕ) (l : List ℤ) (v : ℤ) → all_of q (left_of l) ≡ true → floats_agreed k l ≡ Some v → q v ≡ true
   unfolding floats_agreed
   floats_pass k l v t = go (leb (length l) 8)
     where
-      go : (b : Bool) → cond b (left_agreed k (left_of l)) NoResult ≡ Value v → q v ≡ true
+      go : (b : Bool) → cond b (left_agreed k (left_of l)) None ≡ Some v → q v ≡ true
       go true e = left_passes k (left_of l) v t e
       go false e = cc
 
-pub agreed_finite : (k : ℕ) (l : List ℤ) (v : ℤ) → floats_agreed k l ≡ Value v → is_finite v ≡ true
+pub agreed_finite : (k : ℕ) (l : List ℤ) (v : ℤ) → floats_agreed k l ≡ Some v → is_finite v ≡ true
 agreed_finite k l v = floats_pass is_finite (λ x h a. rw (pattern_back x h, a) refl) k l v (left_finite l)

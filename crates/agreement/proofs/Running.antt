@@ -9,16 +9,13 @@ use native.Mathlib.Omega.{arith}
 use lib.IntN.{ℤ, pos, negsuc}
 use lib.ListN.{length, drop, get_or}
 use borrow.Author.Tests.{lt-leb, ne_eqb}
+use Rattle.std.specs.Prelude.{Option, Some, None}
 use Rattle.whole.proofs.Loops.{next, none_left}
 use Rattle.packing.specs.Values.{pattern_of}
 use Rattle.float.specs.Patterns.{aside}
 use Rattle.float.specs.Rounding.{plus, over}
 use Rattle.float.proofs.Itself.{minus_zero_plus}
 use Rattle.float.specs.Running.{Running, none, more, finite_mean, finish}
-use Rattle.float.specs.declared.FloatMean.{FloatMean}
-use Rattle.float.specs.declared.FloatMean.TheVariants as means
-use Rattle.agreement.specs.declared.Agreed.{Agreed}
-use Rattle.agreement.specs.declared.Agreed.TheVariants.{Value, NoResult}
 use Rattle.agreement.specs.Floats.{left_of, sum_from, finite_value, float_mean}
 
 -- ---- those that are left
@@ -103,15 +100,15 @@ started s c (v ∷ l) h = go (aside (pattern_of 32 v)) refl h (started s c l) (s
 -- ---- its mean
 
 -- what a float's mean is as an agreement
-abbrev pub agreed_mean : FloatMean → Agreed
-agreed_mean (means.Pattern x) = Value (pos x)
-agreed_mean means.NoResult = NoResult
+abbrev pub agreed_mean : Option ℕ → Option ℤ
+agreed_mean (Some x) = Some (pos x)
+agreed_mean None = None
 
 finite_mean_lem : (x : ℕ) → agreed_mean (finite_mean x) ≡ finite_value x
 unfolding finite_mean finite_value
 finite_mean_lem x = go (aside x)
   where
-    go : (b : Bool) → agreed_mean (cond b means.NoResult (means.Pattern x)) ≡ cond b NoResult (Value (pos x))
+    go : (b : Bool) → agreed_mean (cond b None (Some x)) ≡ cond b None (Some (pos x))
     go true = refl
     go false = refl
 
@@ -119,7 +116,7 @@ finished : (s n : ℕ) → agreed_mean (finish (at s (1 + n))) ≡ finite_value 
 unfolding finish
 finished s n = rw (ne_eqb (1 + n) 0 (λ z. omega arith)) (finite_mean_lem (over s (1 + n)))
 
-no_mean : agreed_mean (finish none) ≡ NoResult
+no_mean : agreed_mean (finish none) ≡ None
 unfolding finish none
 no_mean = refl
 

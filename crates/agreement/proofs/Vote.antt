@@ -12,10 +12,9 @@ use native.Mathlib.Decide.{dec_lt}
 use lib.Dec.{ltb}
 use lib.IntN.{ℤ, pos, negsuc, pos-ne-negsuc, ℤ_discrete}
 use borrow.Author.Tests.{ltb-true, lt-ltb}
+use Rattle.std.specs.Prelude.{Option, Some, None}
 use Rattle.whole.specs.Whole.{eq_z, all_of}
 use Rattle.whole.proofs.Integers.{eq_z_true, eq_z_same, eq_z_other}
-use Rattle.agreement.specs.declared.Agreed.{Agreed}
-use Rattle.agreement.specs.declared.Agreed.TheVariants.{Value, NoResult}
 use Rattle.agreement.specs.Agreement.{count_of, Ahead, ahead, one_that, vote}
 
 -- ---- tests over the instances, which are the values that are carried at least once
@@ -41,19 +40,19 @@ all_pass p [] h = refl
 all_pass p (x ∷ l) h = rw (h x) (all_pass p l h)
 
 -- what a search comes to: an instance that passes, or that none does
-abbrev Finding : (ℤ → Bool) → List ℤ → Agreed → Type 0
-Finding p l (Value v) = (0 < count_of v l) × (p v ≡ true)
-Finding p l NoResult = (v : ℤ) → 0 < count_of v l → p v ≡ true → ⊥
+abbrev Finding : (ℤ → Bool) → List ℤ → Option ℤ → Type 0
+Finding p l (Some v) = (0 < count_of v l) × (p v ≡ true)
+Finding p l None = (v : ℤ) → 0 < count_of v l → p v ≡ true → ⊥
 
 finding : (p : ℤ → Bool) (l : List ℤ) → Finding p l (one_that p l)
 unfolding one_that count_of
 finding p [] = λ v h t. omega arith
 finding p (x ∷ l) = go (p x) refl (one_that p l) (finding p l)
   where
-    go : (t : Bool) → p x ≡ t → (r : Agreed) → Finding p l r → Finding p (x ∷ l) (cond t (Value x) r)
+    go : (t : Bool) → p x ≡ t → (r : Option ℤ) → Finding p l r → Finding p (x ∷ l) (cond t (Some x) r)
     go true e r f = (rw (eq_z_same x x refl) (omega arith), e)
-    go false e (Value v) f = (omega arith, f.1)
-    go false e NoResult f = λ v h t. ⊎_elim (λ q. true≢false (sym t ∙ ap p (sym q) ∙ e)) (λ k. f v k t) (carried v x l h)
+    go false e (Some v) f = (omega arith, f.1)
+    go false e None f = λ v h t. ⊎_elim (λ q. true≢false (sym t ∙ ap p (sym q) ∙ e)) (λ k. f v k t) (carried v x l h)
 
 -- ---- who is ahead
 
@@ -94,26 +93,26 @@ one_ahead l v w h k = go (ℤ_discrete v w)
 -- ---- the vote
 
 -- what the paper's rule says of an outcome
-abbrev pub Outcome : List ℤ → Agreed → Type 0
-Outcome l (Value v) = Ahead l v
-Outcome l NoResult = (v : ℤ) → Ahead l v → ⊥
+abbrev pub Outcome : List ℤ → Option ℤ → Type 0
+Outcome l (Some v) = Ahead l v
+Outcome l None = (v : ℤ) → Ahead l v → ⊥
 
 pub outcome : (l : List ℤ) → Outcome l (vote l)
 unfolding vote
 outcome l = go (one_that (ahead l) l) (finding (ahead l) l)
   where
-    go : (r : Agreed) → Finding (ahead l) l r → Outcome l r
-    go (Value v) f = test_ahead l v f.0 f.1
-    go NoResult f = λ v h. f v (ahead_carried l v h) (ahead_test l v h)
+    go : (r : Option ℤ) → Finding (ahead l) l r → Outcome l r
+    go (Some v) f = test_ahead l v f.0 f.1
+    go None f = λ v h. f v (ahead_carried l v h) (ahead_test l v h)
 
-pub one_outcome : (l : List ℤ) (r s : Agreed) → Outcome l r → Outcome l s → r ≡ s
-one_outcome l (Value v) (Value w) h k = ap Value (one_ahead l v w h k)
-one_outcome l (Value v) NoResult h k = absurd (k v h)
-one_outcome l NoResult (Value w) h k = absurd (h w k)
-one_outcome l NoResult NoResult h k = refl
+pub one_outcome : (l : List ℤ) (r s : Option ℤ) → Outcome l r → Outcome l s → r ≡ s
+one_outcome l (Some v) (Some w) h k = ap Some (one_ahead l v w h k)
+one_outcome l (Some v) None h k = absurd (k v h)
+one_outcome l None (Some w) h k = absurd (h w k)
+one_outcome l None None h k = refl
 
-pub vote_value : (l : List ℤ) (v : ℤ) → (vote l ≡ Value v) ↔ Ahead l v
-vote_value l v = (λ e. subst (Outcome l) e (outcome l), λ h. one_outcome l (vote l) (Value v) (outcome l) h)
+pub vote_value : (l : List ℤ) (v : ℤ) → (vote l ≡ Some v) ↔ Ahead l v
+vote_value l v = (λ e. subst (Outcome l) e (outcome l), λ h. one_outcome l (vote l) (Some v) (outcome l) h)
 
-pub vote_none : (l : List ℤ) → (vote l ≡ NoResult) ↔ ((v : ℤ) → Ahead l v → ⊥)
-vote_none l = (λ e. subst (Outcome l) e (outcome l), λ h. one_outcome l (vote l) NoResult (outcome l) h)
+pub vote_none : (l : List ℤ) → (vote l ≡ None) ↔ ((v : ℤ) → Ahead l v → ⊥)
+vote_none l = (λ e. subst (Outcome l) e (outcome l), λ h. one_outcome l (vote l) None (outcome l) h)

@@ -1,17 +1,15 @@
 -- Agreement on a message's counting instances. They come as a list of whole numbers in frame order, the lowest frame number first.
 -- Assumes nothing.
-use Rattle.std.specs.Prelude.{◌≡◌, Bool, cond, ◌&&◌, ◌||◌, List, [], ◌∷◌, ℕ, ◌+◌, ◌-◌, ◌<◌, ◌^◌, ltb, leb, ℤ, pos, neg_ℤ, ◌+ℤ◌, length, get_or}
+use Rattle.std.specs.Prelude.{Option, Some, None, ◌≡◌, Bool, cond, ◌&&◌, ◌||◌, List, [], ◌∷◌, ℕ, ◌+◌, ◌-◌, ◌<◌, ◌^◌, ltb, leb, ℤ, pos, neg_ℤ, ◌+ℤ◌, length, get_or}
 use Rattle.std.specs.Int.Signed.{le_z, quot_z}
 use Rattle.whole.specs.Whole.{eq_z, all_of}
-use Rattle.agreement.specs.declared.Agreed.{Agreed}
-use Rattle.agreement.specs.declared.Agreed.TheVariants.{Value, NoResult}
 
 -- ---- agreement 0, pick any
 
 -- the counting instance with the lowest frame number
-abbrev pub pick_any : List ℤ → Agreed
-pick_any [] = NoResult
-pick_any (v ∷ l) = Value v
+abbrev pub pick_any : List ℤ → Option ℤ
+pick_any [] = None
+pick_any (v ∷ l) = Some v
 
 -- ---- agreement 1, average
 
@@ -37,8 +35,8 @@ unfoldable pub message_values : List ℤ → Bool
 message_values l = (leb 1 (length l) && leb (length l) 8) && all_of message_value l
 
 -- anything else has no mean
-unfoldable pub average : List ℤ → Agreed
-average l = cond (message_values l) (Value (mean_of l)) NoResult
+unfoldable pub average : List ℤ → Option ℤ
+average l = cond (message_values l) (Some (mean_of l)) None
 
 -- ---- agreement 2, vote
 
@@ -56,16 +54,16 @@ unfoldable pub ahead : List ℤ → ℤ → Bool
 ahead l v = all_of (λ u. eq_z u v || ltb (count_of u l) (count_of v l)) l
 
 -- an instance that passes a test, if there is one
-unfoldable pub one_that : (ℤ → Bool) → List ℤ → Agreed
-one_that p [] = NoResult
-one_that p (v ∷ l) = cond (p v) (Value v) (one_that p l)
+unfoldable pub one_that : (ℤ → Bool) → List ℤ → Option ℤ
+one_that p [] = None
+one_that p (v ∷ l) = cond (p v) (Some v) (one_that p l)
 
 -- the value that is ahead of every other: there is at most one, and this finds it (`one_ahead`, `vote_value`, specs/Claims)
-unfoldable pub vote : List ℤ → Agreed
+unfoldable pub vote : List ℤ → Option ℤ
 vote l = one_that (ahead l) l
 
 -- ---- by number
 
 -- agreements 0 to 2; a larger number is none
-unfoldable pub agreed : ℕ → List ℤ → Agreed
-agreed k l = get_or (pick_any l ∷ average l ∷ vote l ∷ []) k NoResult
+unfoldable pub agreed : ℕ → List ℤ → Option ℤ
+agreed k l = get_or (pick_any l ∷ average l ∷ vote l ∷ []) k None

@@ -1,3 +1,4 @@
+pub mod Kinds
 pub mod Agreement
 pub mod Floats
 pub mod Claims

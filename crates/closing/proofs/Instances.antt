@@ -20,20 +20,19 @@ use Rattle.packing.proofs.Places.{places_in_places, places_in_none, places_lengt
 use Rattle.packing.proofs.Values.{value_range, range_wider}
 use Rattle.agreement.specs.Agreement.{between, message_value, message_values, agreed}
 use Rattle.agreement.specs.Floats.{floats_agreed}
-use Rattle.agreement.specs.declared.Agreed.TheVariants.{Value}
+use Rattle.std.specs.Prelude.{Some}
 use Rattle.agreement.proofs.Average.{mean_between, average_value}
 use Rattle.agreement.proofs.MessageValues.{values_parts}
 use Rattle.agreement.proofs.Passed.{picked_passes, voted_passes, all_left, floats_pass, agreed_finite}
 use Rattle.record.specs.declared.Field.{Field as FieldRecord}
 use Rattle.store.specs.declared.Message.{Message}
 use Rattle.store.specs.Node.{Node, is_signed, is_float, message_at, laid_at}
-use Rattle.start.specs.Start.{table}
-use Rattle.start.proofs.Tables.{length_table}
 use Rattle.message.specs.Messages.{can_hold, agreed_by}
 use Rattle.message.proofs.Held.{float_unsigned, holds_whole, holds_float}
 use Rattle.own.specs.declared.Owner.{Owner}
-use Rattle.own.specs.Own.{chosen, first_place, end_place, cell_at, owns, cells_of, fields_of}
+use Rattle.own.specs.Own.{chosen, cells_of, fields_of}
 use Rattle.closing.specs.Closing.{counts, value_in, instances}
+use Rattle.own.proofs.Ahead.{cells_few}
 use Rattle.own.proofs.Lists.{chosen_few}
 use Rattle.own.proofs.Tables.{all_pass, all_map}
 
@@ -62,7 +61,7 @@ in_range_value signed w v r = go signed v (range_wider signed w v r)
     go false (pos n) r = ((and-eq-true_iff (leb 0 n) (leb n (2 ^ 32 - 1))).0 r).1
     go false (negsuc n) r = absurd (false≢true r)
 
-agreed_between : (lo hi : ℤ) (k : ℕ) (l : List ℤ) (v : ℤ) → all_of (between lo hi) l ≡ true → agreed k l ≡ Value v → between lo hi v ≡ true
+agreed_between : (lo hi : ℤ) (k : ℕ) (l : List ℤ) (v : ℤ) → all_of (between lo hi) l ≡ true → agreed k l ≡ Some v → between lo hi v ≡ true
 unfolding agreed
 agreed_between lo hi zero l v t e = picked_passes (between lo hi) l v t e
 agreed_between lo hi (suc zero) l v t e =
@@ -80,15 +79,12 @@ pattern_in_range x h = (and-eq-true_iff (leb 0 x) (leb x (2 ^ 32 - 1))).1 (le-le
 
 -- there are at most eight, in any node
 pub instances_few : (n : Node) (m : ℕ) → length (instances n m) ≤ 8
-unfolding instances cells_of
+unfolding instances
 instances_few n m =
     let l = n.layout in
     let o = Owner.Message m in
-    let from = first_place l o in
-    let few : length (cells_of l o) ≤ end_place l o - from =
-    rw (length_table (cell_at l o) from (end_place l o - from)) at (chosen_few (owns l o) (table (cell_at l o) from (end_place l o - from))) in
     let same : length (fields_of l o) ≡ length (cells_of l o) = length-map (cells_of l o) (laid_at l) in
-    rw length-map (omega (arith, chosen_few (counts n) (fields_of l o)))
+    rw length-map (omega (arith, chosen_few (counts n) (fields_of l o), cells_few l m))
 
 module _ (n : Node) (m : ℕ) where
   abbrev message : Message
@@ -115,7 +111,7 @@ module _ (n : Node) (m : ℕ) where
       ((and-eq-true_iff (leb 1 size) (leb size 8)).1 (le-leb 1 size some, le-leb size 8 (instances_few n m)), each)
 
   -- and so is a value on which they agree
-  whole_in_range : (v : ℤ) → is_width message.width ≡ true → agreed message.agreement (instances n m) ≡ Value v
+  whole_in_range : (v : ℤ) → is_width message.width ≡ true → agreed message.agreement (instances n m) ≡ Some v
       → in_range (is_signed message) message.width v ≡ true
   unfolding in_range
   whole_in_range v i e =
@@ -127,19 +123,19 @@ module _ (n : Node) (m : ℕ) where
 
   -- one on which floats agree is a pattern of 32 bits
   floats_in_range : (v : ℤ) → ((x : FieldRecord) → in_range false 32 (value_in n message x) ≡ true)
-      → floats_agreed message.agreement (instances n m) ≡ Value v → in_range false 32 v ≡ true
+      → floats_agreed message.agreement (instances n m) ≡ Some v → in_range false 32 v ≡ true
   floats_in_range v h =
       floats_pass (in_range false 32) (λ x b a. pattern_in_range x b) message.agreement (instances n m) v
       (all_left (in_range false 32) (instances n m) (all_instances (in_range false 32) h))
 
   -- of a message that is as its layout says, it is a value that the message can hold
   pub agreed_in_message : (v : ℤ) → is_width message.width ≡ true → (is_float message ≡ true → message.width ≡ 32)
-      → agreed_by message (instances n m) ≡ Value v → can_hold message v ≡ true
+      → agreed_by message (instances n m) ≡ Some v → can_hold message v ≡ true
   unfolding agreed_by
   agreed_in_message v i w = go (is_float message) refl
     where
       go : (float : Bool) → is_float message ≡ float
-          → cond float (floats_agreed message.agreement (instances n m)) (agreed message.agreement (instances n m)) ≡ Value v
+          → cond float (floats_agreed message.agreement (instances n m)) (agreed message.agreement (instances n m)) ≡ Some v
           → can_hold message v ≡ true
       go true f e =
           let unsigned = float_unsigned message f in

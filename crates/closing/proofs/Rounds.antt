@@ -4,7 +4,7 @@
 -- Assumes nothing.
 use mathlib.Core.Path.{◌≡◌, refl, ap, ap₂, sym, ◌∙◌, subst}
 use mathlib.Core.Bool.{Bool, true, false, not, cond, ◌&&◌, and-eq-true_iff, and-true, and-false, false≢true}
-use mathlib.Core.List.{List, [], ◌∷◌, ◌++◌, map}
+use mathlib.Core.List.{List, [], ◌∷◌, ◌++◌, map, append-nil}
 use Prim.Native.Nat.{ℕ, zero, suc, ◌+◌, ◌<◌, ◌≤◌}
 use native.Mathlib.Nat.{zero-add}
 use native.Mathlib.Decide.{dec_lt}
@@ -17,33 +17,13 @@ use Rattle.whole.specs.Whole.{all_of}
 use Rattle.record.specs.declared.Field.{Field as FieldRecord}
 use Rattle.store.specs.declared.Message.{Message}
 use Rattle.store.specs.declared.MessageState.{MessageState}
-use Rattle.store.specs.Node.{
-  Delivery,
-  Node,
-  frame_count,
-  message_count,
-  is_sent,
-  layout_of,
-  state_of,
-  node_of,
-  no_delivery,
-  no_state,
-  message_at,
-  laid_at,
-  state_at,
-  with_status,
-  with_deliveries,
-  with_states,
-  with_state,
-  node_with,
-}
+use Rattle.store.specs.Node.{Delivery, Node, frame_count, message_count, is_sent, layout_of, state_of, node_of, no_delivery, no_state, message_at, state_at, with_status, with_deliveries, with_states, with_state, node_with}
 use Rattle.store.proofs.Laws.{deliveries_length}
 use Rattle.message.specs.Messages.{agreed_by, agreed_on, settled}
 use Rattle.own.specs.declared.Owner.{Owner}
-use Rattle.own.specs.Own.{chosen, changed, first_place, end_place, cell_at, owns}
+use Rattle.own.specs.Own.{chosen, changed, fields_of}
 use Rattle.closing.specs.Closing.{came, status_set, counts, value_in, instances, none_came, closed_state, is_received, close_messages, forget}
 use Rattle.closing.proofs.Loops.{rest_stays, changed_to, not_yet, changed_turn, changed_skip, changed_end}
-use Rattle.own.proofs.Ahead.{ahead, first_ahead, last_ahead, own_ahead, other_ahead, fields_ahead}
 
 -- ---- one field
 
@@ -58,69 +38,48 @@ came_known b x here = go (dec_lt x.frame 32)
         let none = get_or-eq_default (state_of b).deliveries no_delivery {n = x.frame} (omega (arith, deliveries_length b)) in
         absurd (false≢true (rw none at here))
 
--- ---- the places of a message
+-- ---- the fields of a message
 
 module _ (n : Node) (m : ℕ) where
-  -- the values of the counting instances that are ahead at place i
-  abbrev pub instances_ahead : ℕ → List ℤ
-  instances_ahead i =
-      map (value_in n (message_at n.layout m)) (chosen (counts n) (map (laid_at n.layout) (ahead n.layout (Owner.Message m) i)))
+  -- the values of those that count
+  abbrev pub counted : List FieldRecord → List ℤ
+  counted l = map (value_in n (message_at n.layout m)) (chosen (counts n) l)
 
-  pub instances_begin : instances n m ≡ instances_ahead (first_place n.layout (Owner.Message m))
-  unfolding instances
-  instances_begin = rw (first_ahead n.layout (Owner.Message m)) refl
+  -- no frame of them came, and none did before
+  abbrev pub none_so_far : Bool → List FieldRecord → Bool
+  none_so_far none l = none && all_of (λ x. not (came n.state x)) l
 
-  module _ (i : ℕ) (here : i < end_place n.layout (Owner.Message m)) {d : ℕ} (told : d ≡ cell_at n.layout (Owner.Message m) i) {r : Bool}
-      (asked : r ≡ owns n.layout (Owner.Message m) d) where
-    -- it came and counts, it came and does not, it did not come, or the cell is another's
-    pub instances_turn : r ≡ true → came n.state (laid_at n.layout d) ≡ true → status_set n (laid_at n.layout d) ≡ true
-        → instances_ahead i ≡ value_in n (message_at n.layout m) (laid_at n.layout d) ∷ instances_ahead (i + 1)
+  -- at first all are ahead, and at last none is
+  pub gather_begin : (instances n m ≡ counted (fields_of n.layout (Owner.Message m))) × (none_came n m ≡ none_so_far true (fields_of n.layout (Owner.Message m)))
+  unfolding instances none_came
+  gather_begin = (refl, refl)
+
+  pub gather_end : {l : List FieldRecord} → l ≡ [] → {taken : List ℤ} {none : Bool} → instances n m ≡ taken ++ counted l → none_came n m ≡ none_so_far none l
+      → (taken ≡ instances n m) × (none ≡ none_came n m)
+  unfolding chosen all_of
+  gather_end e {taken} a b = let c = rw (e, append-nil) at a in let d = rw (e, and-true) at b in (sym c, sym d)
+
+  module _ (x : FieldRecord) (l : List FieldRecord) where
+    -- it came and counts, it came and does not, or it did not come
+    pub counts_turn : came n.state x ≡ true → status_set n x ≡ true → counted (x ∷ l) ≡ value_in n (message_at n.layout m) x ∷ counted l
     unfolding chosen counts
-    instances_turn mine here-now set = rw (own_ahead n.layout (Owner.Message m) i here told asked mine, here-now, set) refl
+    counts_turn here set = rw (here, set) refl
 
-    pub instances_unset : r ≡ true → came n.state (laid_at n.layout d) ≡ true → status_set n (laid_at n.layout d) ≡ false
-        → instances_ahead i ≡ instances_ahead (i + 1)
+    pub unset_turn : came n.state x ≡ true → status_set n x ≡ false → counted (x ∷ l) ≡ counted l
     unfolding chosen counts
-    instances_unset mine here-now unset = rw (own_ahead n.layout (Owner.Message m) i here told asked mine, here-now, unset) refl
+    unset_turn here unset = rw (here, unset) refl
 
-    pub instances_absent : r ≡ true → came n.state (laid_at n.layout d) ≡ false → instances_ahead i ≡ instances_ahead (i + 1)
+    pub absent_turn : came n.state x ≡ false → counted (x ∷ l) ≡ counted l
     unfolding chosen counts
-    instances_absent mine away = rw (own_ahead n.layout (Owner.Message m) i here told asked mine, away) refl
+    absent_turn away = rw away refl
 
-    pub instances_other : r ≡ false → instances_ahead i ≡ instances_ahead (i + 1)
-    instances_other other = rw (other_ahead n.layout (Owner.Message m) i here told asked other) refl
-
-  pub instances_end : (i : ℕ) → end_place n.layout (Owner.Message m) ≤ i → instances_ahead i ≡ []
-  unfolding chosen
-  instances_end i past = rw (last_ahead n.layout (Owner.Message m) i past) refl
-
-  -- no frame came, where it is known of the cells before place i
-  abbrev absent : ℕ → Bool
-  absent d = not (came n.state (laid_at n.layout d))
-
-  abbrev pub none_ahead : Bool → ℕ → Bool
-  none_ahead none i = none && all_of absent (ahead n.layout (Owner.Message m) i)
-
-  pub none_begin : none_came n m ≡ none_ahead true (first_place n.layout (Owner.Message m))
-  unfolding none_came
-  none_begin = fields_ahead n.layout (Owner.Message m) (λ x. not (came n.state x))
-
-  module _ (i : ℕ) (here : i < end_place n.layout (Owner.Message m)) {d : ℕ} (told : d ≡ cell_at n.layout (Owner.Message m) i) {r : Bool}
-      (asked : r ≡ owns n.layout (Owner.Message m) d) (none : Bool) where
-    pub none_turn : r ≡ true → came n.state (laid_at n.layout d) ≡ true → none_ahead none i ≡ none_ahead false (i + 1)
+    pub none_turn : (none : Bool) → came n.state x ≡ true → none_so_far none (x ∷ l) ≡ none_so_far false l
     unfolding all_of
-    none_turn mine here-now = rw (own_ahead n.layout (Owner.Message m) i here told asked mine, here-now, and-false) refl
+    none_turn none here = rw (here, and-false) refl
 
-    pub none_absent : r ≡ true → came n.state (laid_at n.layout d) ≡ false → none_ahead none i ≡ none_ahead none (i + 1)
+    pub none_absent : (none : Bool) → came n.state x ≡ false → none_so_far none (x ∷ l) ≡ none_so_far none l
     unfolding all_of
-    none_absent mine away = rw (own_ahead n.layout (Owner.Message m) i here told asked mine, away) refl
-
-    pub none_other : r ≡ false → none_ahead none i ≡ none_ahead none (i + 1)
-    none_other other = rw (other_ahead n.layout (Owner.Message m) i here told asked other) refl
-
-  pub none_end : (i : ℕ) (none : Bool) → end_place n.layout (Owner.Message m) ≤ i → none_ahead none i ≡ none
-  unfolding all_of
-  none_end i none past = rw (last_ahead n.layout (Owner.Message m) i past, and-true) refl
+    none_absent none away = rw away refl
 
 -- ---- one message
 

@@ -1,15 +1,15 @@
 -- The value that the kit reads from a pattern is its number (specs/Patterns.antt).
 -- Assumes nothing.
 use mathlib.Core.Path.{◌≡◌, refl, ap, sym, ◌∙◌, subst}
-use mathlib.Core.Bool.{Bool, true, false, not, cond, true≢false}
+use mathlib.Core.Bool.{Bool, true, false, not, cond}
 use Prim.Native.Nat.{ℕ, zero, suc, ◌+◌, ◌^◌}
 use native.Mathlib.Nat.{mul-one}
 use lib.Dec.{T, eqb}
 use lib.Pow.{field}
-use lib.Ieee.{Float, nan, inf, fin, binary32, odd, fits, of_fields, of_bits, to_bits, nan_bits, is_nan, ne}
+use lib.Ieee.{Float, nan, inf, fin, binary32, odd, fits, of_fields, of_bits, to_bits, nan_bits}
 use lib.Ieee.Bits.{of_bits-to_bits}
-use lib.Ieee.Compare.{differs_from_itself}
 use lib.Ieee.Exact.{HasValue, odd_sign}
+use Rattle.std.specs.Float.{float_is_finite}
 use Rattle.float.specs.Patterns.{negative, exponent, fraction, aside, units, size_of}
 
 -- a finite value, as a whole multiple of 2^-149 with a sign
@@ -66,13 +66,15 @@ pub no_nan : (x : ℕ) → aside x ≡ false → T (not (nan_bits binary32 x))
 unfolding aside nan_bits
 no_nan x t = rw (ap (λ e. eqb e 255) (field x 8 23) ∙ t) tt
 
--- what equals itself is a number
-pub is_number : (v : Float) → ne v v ≡ false → T (not (is_nan v))
-unfolding ne is_nan
-is_number nan t = absurd (true≢false t)
-is_number (inf s) t = tt
-is_number (fin s m e) t = tt
-
-pub not_number : (v : Float) → ne v v ≡ true → aside (to_bits binary32 v) ≡ true
-unfolding aside to_bits
-not_number v t = rw (differs_from_itself v (subst T (sym t) tt)) refl
+-- a value is finite exactly if its pattern is not set aside
+pub finite_lem : (v : Float) → T (fits binary32 v) → float_is_finite v ≡ not (aside (to_bits binary32 v))
+unfolding float_is_finite
+finite_lem v f = go v (aside (to_bits binary32 v)) (finite_value v f) (aside_value v f)
+  where
+    go : (v : Float) (t : Bool) → (t ≡ false → Units v (negative (to_bits binary32 v)) (size_of (to_bits binary32 v))) → (t ≡ true → Aside v) → float_is_finite v ≡ not t
+    go nan true h k = refl
+    go nan false h k = absurd (h refl)
+    go (inf s) true h k = refl
+    go (inf s) false h k = absurd (h refl)
+    go (fin s m e) true h k = absurd (k refl)
+    go (fin s m e) false h k = refl

@@ -1,10 +1,8 @@
 -- A running sum of floats and their number, which the code carries in a struct: what one more pattern makes of it, and its mean.
 -- Assumes nothing.
-use Rattle.std.specs.Prelude.{cond, ◌||◌, ℕ, ◌+◌, ◌^◌, eqb, leb}
+use Rattle.std.specs.Prelude.{cond, ◌||◌, Option, Some, None, ℕ, ◌+◌, ◌^◌, eqb, leb}
 use Rattle.std.specs.Float.{binary32}
 use Rattle.std.specs.Float.Ieee.{to_bits}
-use Rattle.float.specs.declared.FloatMean.{FloatMean}
-use Rattle.float.specs.declared.FloatMean.TheVariants.{Pattern, NoResult}
 use Rattle.float.specs.declared.FloatSum.{FloatSum}
 use Rattle.float.specs.Patterns.{aside}
 use Rattle.float.specs.Rounding.{plus, over}
@@ -23,12 +21,12 @@ unfoldable pub more : Running → ℕ → Running
 more r x = cond (aside x || leb 8 r.count) r (record { sum = plus r.sum x; count = r.count + 1 })
 
 -- a mean that is not finite is no result
-unfoldable pub finite_mean : ℕ → FloatMean
-finite_mean x = cond (aside x) NoResult (Pattern x)
+unfoldable pub finite_mean : ℕ → Option ℕ
+finite_mean x = cond (aside x) None (Some x)
 
 -- the sum divided by the number of patterns, if there are any
-unfoldable pub finish : Running → FloatMean
-finish r = cond (eqb r.count 0) NoResult (finite_mean (over r.sum r.count))
+unfoldable pub finish : Running → Option ℕ
+finish r = cond (eqb r.count 0) None (finite_mean (over r.sum r.count))
 
 -- what the code's struct stands for
 unfoldable pub running_of : FloatSum → Running

@@ -5,21 +5,14 @@ ghost use Rattle.std.specs.Prelude.{◌≡◌};
 ghost use Rattle.float.specs.Patterns.{aside, rank_of};
 ghost use Rattle.float.specs.Running.{running_of, none, more, finish};
 
-// The sum of some floats in their order, and their number.
+// The sum of some floats in their order, and their number. The paper's form: a running struct by value.
 #[derive(Clone, Copy)]
 pub struct FloatSum {
     pub sum: f32,
     pub count: u8,
 }
 
-// What a mean comes to: the pattern of a finite float, or none.
-#[derive(Clone, Copy)]
-pub enum FloatMean {
-    Pattern(u32),
-    NoResult,
-}
-
-// Whether all exponent bits are set.
+// Whether all exponent bits are set. By the bits, as the paper says it, and not `is_finite`: so no operation on floats is reached by a NaN.
 pub fn is_aside(x: u32) -> bool
     ensures { result ≡ aside x }
 {
@@ -50,22 +43,18 @@ pub fn add(s: FloatSum, x: u32) -> FloatSum
     }
 }
 
-// The sum divided by the number of its patterns.
-pub fn divide(s: FloatSum) -> FloatMean
+// The pattern of the sum divided by the number of its patterns, where that is finite.
+pub fn divide(s: FloatSum) -> Option<u32>
     ensures { result ≡ finish (running_of s) }
 {
     if s.count == 0 {
-        return FloatMean::NoResult;
+        return None;
     }
     let q = s.sum / (s.count as f32);
-    if q != q {
-        return FloatMean::NoResult;
+    if !q.is_finite() {
+        return None;
     }
-    let b = f32::to_bits(q);
-    if is_aside(b) {
-        return FloatMean::NoResult;
-    }
-    FloatMean::Pattern(b)
+    Some(q.to_bits())
 }
 
 // The rank of a pattern in the order of numbers.

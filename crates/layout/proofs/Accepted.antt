@@ -15,11 +15,12 @@ use Rattle.ranges.specs.Ranges.{finding_at, AllRight}
 use Rattle.record.specs.declared.Field.{Field}
 use Rattle.ranges.proofs.Lowest.{range_right}
 use Rattle.record.proofs.Tests.{to_last, bounded, meanings}
-use Rattle.layout.specs.Verdict.{size_fault, is_field_of, fields_among, fails, no_field, complete, fails_at, refusal_at, judged, verdict}
+use Rattle.layout.specs.Verdict.{size_fault, is_field_of, fields_among, fails, no_field, complete, Verdict, refused_at, fails_at, refusal_at, judged, verdict}
+use Rattle.layout.specs.Counts.{counts}
 use Rattle.layout.specs.WellLaid.{FrameRecord, MessageRecord, FieldRecord, Below, the_field, its_message, its_frame, WellLaid}
 use Rattle.layout.specs.declared.Counts.{Counts}
 use Rattle.layout.specs.declared.Refusal.{Refusal}
-use Rattle.layout.specs.declared.Verdict.{Verdict}
+use Rattle.std.specs.Prelude.{Ok, Err}
 use Rattle.layout.proofs.Tallies.{tally_none, tally_most}
 use Rattle.layout.proofs.Sorted.{
   Kinds,
@@ -28,7 +29,6 @@ use Rattle.layout.proofs.Sorted.{
   no_field_lem,
   rises,
   fields_before,
-  counts,
   before_frame,
   before_message,
   before_field,
@@ -220,18 +220,15 @@ module _ (s : List ℕ) (F M D : ℕ) (w : WellLaid s F M D) where
 
 not_refused :
     (b : Bool) (n : Refusal) (r F M D : ℕ) (v : Verdict)
-    → (cond b (Verdict.Refused n r) v ≡ Verdict.Accepted F M D) ↔ ((b ≡ false) × (v ≡ Verdict.Accepted F M D))
+    → (cond b (Err (refused_at n r)) v ≡ Ok (counts F M D)) ↔ ((b ≡ false) × (v ≡ Ok (counts F M D)))
 not_refused true n r F M D v = (λ e. absurd (let z : ◌≡◌ {A = ℕ} 0 1 = cc in omega arith), λ h. absurd (true≢false h.0))
 not_refused false n r F M D v = (λ e. (refl, e), λ h. h.1)
 
 same_counts :
-    (c : Counts) (F M D : ℕ) → (Verdict.Accepted c.frames c.messages c.fields ≡ Verdict.Accepted F M D) ↔ (c ≡ counts F M D)
-same_counts c F M D = (λ e. same (cc) (cc) (cc), λ e. rw e)
-  where
-    same : c.frames ≡ F → c.messages ≡ M → c.fields ≡ D → c ≡ counts F M D
-    same f m d = λ i. counts (f i) (m i) (d i)
+    (c : Counts) (F M D : ℕ) → (◌≡◌ {A = Verdict} (Ok c) (Ok (counts F M D))) ↔ (c ≡ counts F M D)
+same_counts c F M D = (λ e. cc, λ e. rw e)
 
-pub accepted : (s : List ℕ) (F M D : ℕ) → (verdict s ≡ Verdict.Accepted F M D) ↔ WellLaid s F M D
+pub accepted : (s : List ℕ) (F M D : ℕ) → (verdict s ≡ Ok (counts F M D)) ↔ WellLaid s F M D
 unfolding verdict judged refusal_at complete size_fault no_field
 accepted s F M D =
     simp (not_refused, same_counts, meanings) (

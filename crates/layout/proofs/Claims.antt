@@ -3,7 +3,7 @@
 use mathlib.Core.Path.{refl}
 use Rattle.layout.specs.Claims.{Claims}
 use Rattle.layout.proofs.Accepted.{accepted}
-use Rattle.layout.proofs.Refused.{refused, refused_record, refused_byte}
+use Rattle.layout.proofs.Demands.{refused, refused_record, refused_byte}
 
 pub claims : Claims
 claims = record { accepted = accepted; refused = refused; record_given = refused_record; byte_given = refused_byte; numbers = λ k. refl }

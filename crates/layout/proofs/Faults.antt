@@ -13,7 +13,9 @@ use lib.Dec.{eqb, ltb}
 use lib.ListN.{length, get_or}
 use borrow.Author.Tests.{ne_eqb}
 use Rattle.record.specs.Records.{byte_at, is_frame, is_message, is_field, frame_at, message_at, field_at, pair_below}
+use Rattle.std.specs.Prelude.{Ok, Err}
 use Rattle.ranges.specs.Ranges.{
+  Finding,
   wrong_if,
   is_mask,
   is_float,
@@ -36,7 +38,6 @@ use Rattle.record.specs.declared.Frame.{Frame}
 use Rattle.record.specs.declared.Message.{Message}
 use Rattle.record.specs.declared.Field.{Field}
 use Rattle.ranges.specs.declared.Fault.{Fault}
-use Rattle.ranges.specs.declared.Finding.{Finding}
 use Rattle.ranges.proofs.Lowest.{wrong_if_right, Right, list_right}
 use Rattle.ranges.proofs.Walk.{byte_seven}
 use Rattle.record.proofs.Tests.{or_holds, meanings}
@@ -71,17 +72,17 @@ order_clear s i c = simp (meanings, below_holds) (λ h. search arith, λ o. sear
 -- ---- 3 RANGE, 8 RESERVED, 9 UNUSED and 10 WIDTH
 
 -- a byte of which nothing is said
-nothing_said : (A : Type 0) → ((Finding.Right ≡ Finding.Right) × A) ↔ A
+nothing_said : (A : Type 0) → ((◌≡◌ {A = Finding} (Ok tt) (Ok tt)) × A) ↔ A
 nothing_said A = (λ h. h.1, λ a. (refl, a))
 
 -- a fault where the test holds, or what comes next
 first_right :
     (wrong : Bool) (fault : Fault) (next : Finding)
-    → (cond wrong (Finding.Wrong fault) next ≡ Finding.Right) ↔ ((wrong ≡ false) × (next ≡ Finding.Right))
+    → (cond wrong (Err fault) next ≡ Ok tt) ↔ ((wrong ≡ false) × (next ≡ Ok tt))
 first_right true fault next = (λ e. absurd (true≢false (ap is_wrong e)), λ h. absurd (true≢false h.0))
 first_right false fault next = (λ e. (refl, e), λ h. h.1)
 
-word_right : (g : Message) (used : Bool) (x : ℕ) → (word_finding g used x ≡ Finding.Right) ↔ Word g used x
+word_right : (g : Message) (used : Bool) (x : ℕ) → (word_finding g used x ≡ Ok tt) ↔ Word g used x
 unfolding word_finding word_fits
 word_right g used x = simp (first_right, wrong_if_right, meanings) (λ h. search, λ w. search)
 
@@ -90,7 +91,7 @@ record Filter (g : Message) : Type 0 where
   pub filter : g.filter ≤ 13
   pub float_filter : g.sign ≡ 2 → is_mask g.filter ≡ false
 
-filter_right : (g : Message) → (wrong_if (ltb 13 g.filter || (is_float g && is_mask g.filter)) Fault.Range ≡ Finding.Right) ↔ Filter g
+filter_right : (g : Message) → (wrong_if (ltb 13 g.filter || (is_float g && is_mask g.filter)) Fault.Range ≡ Ok tt) ↔ Filter g
 filter_right g =
     simp (wrong_if_right, meanings) (
       λ h. record { filter = h.0; float_filter = λ e. simp meanings (h.1 e) },

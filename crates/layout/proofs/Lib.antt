@@ -3,7 +3,7 @@ pub mod Claims
 pub mod Faults
 pub mod Node
 pub mod Numbers
-pub mod Refused
+pub mod Demands
 pub mod Runs
 pub mod Sorted
 pub mod Tallies

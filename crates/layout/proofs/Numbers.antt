@@ -18,7 +18,7 @@ fault_number_lem Fault.Width = (omega arith, omega arith)
 pub number_to_ten : (n : Refusal) → ToTen (number_of n)
 number_to_ten Refusal.Size = (omega arith, omega arith)
 number_to_ten Refusal.Order = (omega arith, omega arith)
-number_to_ten (Refusal.Byte fault k) = fault_number_lem fault
+number_to_ten (Refusal.Byte wrong) = fault_number_lem wrong.fault
 number_to_ten Refusal.Ref = (omega arith, omega arith)
 number_to_ten Refusal.Group = (omega arith, omega arith)
 number_to_ten Refusal.Place = (omega arith, omega arith)

@@ -13,7 +13,7 @@ use lib.Dec.{eqb}
 use Rattle.record.specs.Numbers.{tally}
 use Rattle.record.specs.Records.{byte_at, is_frame, is_message, is_field}
 use Rattle.record.proofs.Tests.{to_last}
-use Rattle.layout.specs.Counts.{counts_before}
+use Rattle.layout.specs.Counts.{counts, counts_before}
 use Rattle.layout.specs.declared.Counts.{Counts}
 use Rattle.layout.proofs.Tallies.{tally_run, sums}
 
@@ -70,9 +70,6 @@ module _ (s : List ℕ) (F M D : ℕ) (w : Kinds s F M D) where
   )
 
 -- ---- from the order to the counts
-
-abbrev pub counts : ℕ → ℕ → ℕ → Counts
-counts f m d = record { frames = f; messages = m; fields = d }
 
 -- the counts with d records more, all of kind x
 abbrev more : ℕ → ℕ → Counts → Counts

@@ -15,7 +15,7 @@ fault_number Fault.Width = 10
 abbrev pub number_of : Refusal → ℕ
 number_of Refusal.Size = 1
 number_of Refusal.Order = 2
-number_of (Refusal.Byte fault k) = fault_number fault
+number_of (Refusal.Byte wrong) = fault_number wrong.fault
 number_of Refusal.Ref = 4
 number_of Refusal.Group = 5
 number_of Refusal.Place = 6
@@ -25,7 +25,7 @@ number_of Refusal.NoField = 7
 abbrev pub byte_of : Refusal → ℕ
 byte_of Refusal.Size = 0
 byte_of Refusal.Order = 0
-byte_of (Refusal.Byte fault k) = k
+byte_of (Refusal.Byte wrong) = wrong.byte
 byte_of Refusal.Ref = 0
 byte_of Refusal.Group = 0
 byte_of Refusal.Place = 0

@@ -1,9 +1,9 @@
 -- What the paper demands of a refusal and its record. SIZE comes first, with record 0; then the first record that fails a test decides, and of its
--- tests the first that it fails, where of its wrong bytes the lowest does; then the lowest message without a field. proofs/Refused.antt shows that
+-- tests the first that it fails, where of its wrong bytes the lowest does; then the lowest message without a field. proofs/Demands.antt shows that
 -- exactly these are given.
 -- Assumes nothing.
 use Rattle.std.specs.Prelude.{◌≡◌, true, false, List, ℕ, ◌+◌, ◌/◌, ◌<◌, ◌≤◌, length}
-use Rattle.ranges.specs.Ranges.{finding_at, LowestWrong, AllRight}
+use Rattle.ranges.specs.Ranges.{wrong_byte, finding_at, LowestWrong, AllRight}
 use Rattle.ranges.specs.declared.Fault.{Fault}
 use Rattle.layout.specs.Counts.{counts_before}
 use Rattle.layout.specs.Verdict.{size_fault, order_fault, ref_fault, fields_among, group_fault, place_fault}
@@ -21,7 +21,7 @@ pub record Passes (s : List ℕ) (i : ℕ) (c : Counts) : Type 0 where
 -- it fails the test of refusal n, and passes those before
 pub data Fails (s : List ℕ) (i : ℕ) (c : Counts) (n : Refusal) : Type 0 where
   order : order_fault s i c ≡ true → n ≡ Refusal.Order → Fails s i c n
-  byte : order_fault s i c ≡ false → (fault : Fault) (k : ℕ) → LowestWrong (finding_at s i) fault k → n ≡ Refusal.Byte fault k → Fails s i c n
+  byte : order_fault s i c ≡ false → (fault : Fault) (k : ℕ) → LowestWrong (finding_at s i) fault k → n ≡ Refusal.Byte (wrong_byte fault k) → Fails s i c n
   ref : order_fault s i c ≡ false → AllRight (finding_at s i) → ref_fault s i c ≡ true → n ≡ Refusal.Ref → Fails s i c n
   group : order_fault s i c ≡ false → AllRight (finding_at s i) → ref_fault s i c ≡ false → group_fault s i c ≡ true → n ≡ Refusal.Group → Fails s i c n
   place :

@@ -1,19 +1,26 @@
 -- What each layout refusal says, and the verdict on a file. Each refusal is a list of faults, one for each clause of the paper's table, in its
 -- order; RANGE, RESERVED, UNUSED and WIDTH look at one record only, and stand in ranges/specs/Ranges.antt. Of record i, c counts the records before it.
 -- Assumes nothing.
-use Rattle.std.specs.Prelude.{Bool, not, cond, ◌&&◌, List, [], ◌∷◌, ℕ, ◌+◌, ◌-◌, ◌/◌, ◌%◌, eqb, ltb, leb, length}
+use Rattle.std.specs.Prelude.{Bool, not, cond, ◌&&◌, List, [], ◌∷◌, ℕ, ◌+◌, ◌-◌, ◌/◌, ◌%◌, eqb, ltb, leb, length, Result, Ok, Err}
 use Rattle.record.specs.Numbers.{within, tally, any_below, least_below, one_of}
 use Rattle.record.specs.Records.{byte_at, is_frame, is_message, is_field, field_at, record_at, pair_below}
-use Rattle.ranges.specs.Ranges.{range_fault, is_fault}
+use Rattle.ranges.specs.Ranges.{RecordFinding, range_fault, is_fault}
 use Rattle.record.specs.Runs.{message_run, status_run, past_end, meet, clash}
 use Rattle.record.specs.declared.Message.{Message}
 use Rattle.record.specs.declared.Field.{Field}
-use Rattle.ranges.specs.declared.RangeFault.{RangeFault}
 use Rattle.layout.specs.Counts.{counts_before, frame_numbered, message_numbered}
 use Rattle.layout.specs.declared.Counts.{Counts}
 use Rattle.layout.specs.declared.Refusal.{Refusal}
-use Rattle.layout.specs.declared.Read.{Read}
-use Rattle.layout.specs.declared.Verdict.{Verdict}
+use Rattle.record.specs.declared.Record.{Record}
+use Rattle.layout.specs.declared.Refused.{Refused}
+
+-- what is said of a file: its counts, or why it is refused
+abbrev pub Verdict : Type 0
+Verdict = Result Counts Refused
+
+-- this refusal, at record r
+abbrev pub refused_at : Refusal → ℕ → Refused
+refused_at n r = record { refusal = n; «record» = r }
 
 -- ---- 1 SIZE
 
@@ -100,9 +107,9 @@ unfoldable pub fails : List ℕ → ℕ → Counts → Bool
 fails s i c = one_of (order_fault s i c ∷ is_fault (range_fault s i) ∷ ref_fault s i c ∷ group_fault s i c ∷ place_fault s i c ∷ [])
 
 -- what is wrong at a byte, or what comes next
-abbrev pub byte_or : RangeFault → Refusal → Refusal
-byte_or RangeFault.None next = next
-byte_or (RangeFault.At fault k) next = Refusal.Byte fault k
+abbrev pub byte_or : RecordFinding → Refusal → Refusal
+byte_or (Ok u) next = next
+byte_or (Err wrong) next = Refusal.Byte wrong
 
 -- the first that it fails decides: 2, then 3 and 8 to 10, then 4, 5, 6
 unfoldable pub refusal_of : List ℕ → ℕ → Counts → Refusal
@@ -114,8 +121,8 @@ refusal_of s i c =
     Refusal.Place)))
 
 -- reading record i answers that refusal, or the record
-unfoldable pub read_at : List ℕ → ℕ → Counts → Read
-read_at s i c = cond (fails s i c) (Read.Refused (refusal_of s i c)) (Read.Record (record_at s i))
+unfoldable pub read_at : List ℕ → ℕ → Counts → Result Record Refusal
+read_at s i c = cond (fails s i c) (Err (refusal_of s i c)) (Ok (record_at s i))
 
 -- ---- 7 NOFIELD
 
@@ -127,8 +134,8 @@ no_field s n m = eqb (fields_among s m n) 0
 unfoldable pub complete : List ℕ → ℕ → Counts → Verdict
 complete s n c =
     cond (any_below (no_field s n) c.messages)
-    (Verdict.Refused Refusal.NoField (c.frames + least_below (no_field s n) c.messages))
-    (Verdict.Accepted c.frames c.messages c.fields)
+    (Err (refused_at Refusal.NoField (c.frames + least_below (no_field s n) c.messages)))
+    (Ok c)
 
 -- ---- the verdict
 
@@ -137,7 +144,7 @@ fails_at s i = fails s i (counts_before s i)
 
 -- the refusal of a record that fails
 unfoldable pub refusal_at : List ℕ → ℕ → Verdict
-refusal_at s i = Verdict.Refused (refusal_of s i (counts_before s i)) i
+refusal_at s i = Err (refused_at (refusal_of s i (counts_before s i)) i)
 
 -- of n records the first that fails decides; where none does, NOFIELD is left
 unfoldable pub judged : List ℕ → ℕ → Verdict
@@ -145,4 +152,4 @@ judged s n = cond (any_below (fails_at s) n) (refusal_at s (least_below (fails_a
 
 -- SIZE comes first, with record 0
 unfoldable pub verdict : List ℕ → Verdict
-verdict s = cond (size_fault s) (Verdict.Refused Refusal.Size 0) (judged s (length s / 24))
+verdict s = cond (size_fault s) (Err (refused_at Refusal.Size 0)) (judged s (length s / 24))

@@ -2,14 +2,15 @@
 #![tactic(auto)]
 
 ghost use Rattle.std.specs.Prelude.{◌≡◌, ◌≤◌};
+ghost use Rattle.layout.specs.declared.Refusal.{Refusal};
 ghost use Rattle.layout.specs.Counts.{counted_by};
 ghost use Rattle.layout.specs.Numbers.{fault_number, number_of, byte_of};
 
-use ranges::Fault;
+use ranges::{Fault, RangeFault};
 use record::Record;
 
 // How many records of each kind there are.
-#[derive(Clone, Copy)]
+#[derive(Clone, Copy, Default)]
 pub struct Counts {
     pub frames: usize,
     pub messages: usize,
@@ -21,35 +22,29 @@ pub struct Counts {
 pub enum Refusal {
     Size,
     Order,
-    Byte { fault: Fault, byte: u8 },
+    Byte(RangeFault),
     Ref,
     Group,
     Place,
     NoField,
 }
 
-// What reading a record answers.
-#[derive(Clone, Copy)]
-pub enum Read {
-    Record(Record),
-    Refused(Refusal),
+impl From<RangeFault> for Refusal {
+    ghost from_gives = { λ wrong refusal. refusal ≡ Refusal.Byte wrong };
+
+    fn from(wrong: RangeFault) -> Refusal {
+        Refusal::Byte(wrong)
+    }
 }
 
-// What reading a file answers.
+// A refused file: why, and at which record.
 #[derive(Clone, Copy)]
-pub enum Verdict {
-    Accepted {
-        frames: usize,
-        messages: usize,
-        fields: usize,
-    },
-    Refused {
-        refusal: Refusal,
-        record: usize,
-    },
+pub struct Refused {
+    pub refusal: Refusal,
+    pub record: usize,
 }
 
-// ---- the refusals' numbers
+// ---- the refusals' numbers: functions and no `From`, since the promises name them
 
 fn fault_number(fault: Fault) -> u8
     ensures { result ≡ fault_number fault }
@@ -68,7 +63,7 @@ pub fn number_of(refusal: Refusal) -> u8
     match refusal {
         Refusal::Size => 1,
         Refusal::Order => 2,
-        Refusal::Byte { fault, byte: _ } => fault_number(fault),
+        Refusal::Byte(wrong) => fault_number(wrong.fault),
         Refusal::Ref => 4,
         Refusal::Group => 5,
         Refusal::Place => 6,
@@ -76,18 +71,13 @@ pub fn number_of(refusal: Refusal) -> u8
     }
 }
 
-// The byte that a refusal gives, or 0: byte 0 holds the kind, which ORDER tests.
+// The byte that a refusal gives, or 0: byte 0 holds the kind, which ORDER tests. A number and no Option: `load` adds it to its answer.
 pub fn byte_of(refusal: Refusal) -> u8
     ensures { result ≡ byte_of refusal }
 {
     match refusal {
-        Refusal::Byte { fault: _, byte } => byte,
-        Refusal::Size => 0,
-        Refusal::Order => 0,
-        Refusal::Ref => 0,
-        Refusal::Group => 0,
-        Refusal::Place => 0,
-        Refusal::NoField => 0,
+        Refusal::Byte(wrong) => wrong.byte,
+        _ => 0,
     }
 }
 
@@ -95,19 +85,24 @@ pub fn byte_of(refusal: Refusal) -> u8
 
 impl Counts {
     // With one record more, if it is one.
-    pub fn with(self, read: Read) -> Counts
+    pub fn with(self, read: Result<Record, Refusal>) -> Counts
         requires { (self.frames ≤ 192) × (self.messages ≤ 192) × (self.fields ≤ 192) }
         ensures { result ≡ counted_by self read }
     {
-        let Read::Record(r) = read else {
-            return self;
-        };
-        let mut c = self;
-        match r {
-            Record::Frame(_) => c.frames = self.frames + 1,
-            Record::Message(_) => c.messages = self.messages + 1,
-            Record::Field(_) => c.fields = self.fields + 1,
+        match read {
+            Ok(Record::Frame(_)) => Counts {
+                frames: self.frames + 1,
+                ..self
+            },
+            Ok(Record::Message(_)) => Counts {
+                messages: self.messages + 1,
+                ..self
+            },
+            Ok(Record::Field(_)) => Counts {
+                fields: self.fields + 1,
+                ..self
+            },
+            Err(_) => self,
         }
-        c
     }
 }

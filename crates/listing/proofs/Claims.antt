@@ -8,16 +8,16 @@ use Rattle.record.specs.Records.{byte_at, word_at, is_frame, is_message, is_fiel
 use Rattle.record.specs.Runs.{past_end, meet, clash}
 use Rattle.ranges.specs.Ranges.{wrong_if, word_fits, word_finding, frame_finding, message_finding, field_finding, finding_of, finding_at, wrong_at}
 use Rattle.ranges.specs.Ranges.{lowest_fault, range_fault}
-use Rattle.layout.specs.Counts.{counts_before}
+use Rattle.layout.specs.Counts.{counts, counts_before}
 use Rattle.layout.specs.Paper.{record_of, paper}
 use Rattle.layout.specs.Verdict.{size_fault, order_fault, ref_fault, is_field_of, unlike, group_fault, clash_at, place_fault, fails, refusal_of}
 use Rattle.layout.specs.Verdict.{no_field, complete, fails_at, refusal_at, judged, verdict}
-use Rattle.layout.specs.declared.Verdict.{Verdict}
+use Rattle.std.specs.Prelude.{Ok}
 use Rattle.listing.specs.Text.{digits, status_text, line_of, line_at, lines, byte_text, refusal_text, listing}
 use Rattle.listing.specs.Claims.{Claims}
 use Rattle.listing.proofs.Decimal.{decimal_reads}
 
-paper_accepted : verdict paper ≡ Verdict.Accepted 1 1 1
+paper_accepted : verdict paper ≡ Ok (counts 1 1 1)
 unfolding
     record_of extended is_width extend aside
     tally any_below least_below

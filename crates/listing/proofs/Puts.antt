@@ -1,21 +1,28 @@
--- Laws of a text written into a buffer: of no text, of one byte, and of two texts one after the other, which is as good as the appended text. What is
--- said of `Put` comes from the same said of `put_all`, by recursion over the text.
+-- Laws of a text written into a buffer: of no text, of one that is copied whole, and of two texts one after the other, which is as good as the appended
+-- text. What is said of `Put` and `Adds` comes from the same said of `put_all`, by recursion over the text.
 -- Assumes nothing.
-use mathlib.Core.Path.{◌≡◌, refl, ap, ◌∙◌}
-use mathlib.Core.List.{List, [], ◌∷◌, ◌++◌}
+use mathlib.Core.Path.{◌≡◌, refl, ◌∙◌}
+use mathlib.Core.List.{List, [], ◌∷◌, ◌++◌, append_assoc}
 use Prim.Native.Nat.{ℕ, suc, ◌+◌, ◌≤◌}
 use native.Mathlib.Nat.{add-zero}
 use native.Mathlib.Omega.{arith}
-use lib.ListN.{length, set, length-set, length-append}
-use Rattle.listing.specs.Put.{put_all, Put}
+use lib.ListN.{length, take, drop, set, length-set, length-append}
+use Rattle.std.proofs.lemmas.List.{take-append-drop, drop-drop, take_more_set, drop-set-lt}
+use Rattle.listing.specs.declared.Text.{Text}
+use Rattle.listing.specs.Put.{put_all, Put, Adds}
 
-pub put_none : (l : List ℕ) (at : ℕ) → Put l l at at [] 0
+put_parts : (l : List ℕ) (at : ℕ) (t : List ℕ) → at + length t ≤ length l → take at l ++ (t ++ drop (at + length t) l) ≡ put_all l at t
 unfolding put_all
-put_none l at = record { written = refl; after = omega arith; short = omega arith }
+put_parts l at [] fits = rw add-zero (take-append-drop at l)
+put_parts l at (x ∷ t) fits =
+    let e : at + suc (length t) ≡ at + 1 + length t = omega arith in
+    let rest = put_parts (set l at x) (at + 1) t (omega (arith, length-set l at x)) in
+    rw e (rw (take_more_set l at x (omega arith), drop-set-lt (at + 1 + length t) l at x (omega arith), append_assoc) at rest)
 
-pub put_one : (l : List ℕ) (at b : ℕ) → Put l (set l at b) at (at + 1) (b ∷ []) 1
-unfolding put_all
-put_one l at b = record { written = refl; after = refl; short = omega arith }
+-- a whole text, copied into its part of the buffer
+pub put_copied : (l : List ℕ) (at k : ℕ) (t : List ℕ) → at + length t ≤ length l → k ≡ length t → Put l (take at l ++ (t ++ drop k (drop at l))) at (at + length t) t (length t)
+put_copied l at k t fits e =
+    record { written = rw (e, drop-drop (length t) at l) (put_parts l at t fits); after = refl; short = omega arith }
 
 put_append : (l : List ℕ) (at : ℕ) (a b : List ℕ) → put_all (put_all l at a) (at + length a) b ≡ put_all l at (a ++ b)
 unfolding put_all
@@ -24,25 +31,25 @@ put_append l at (x ∷ a) b =
     let e : at + suc (length a) ≡ at + 1 + length a = omega arith in
     rw e (put_append (set l at x) (at + 1) a b)
 
-length_put_all : (l : List ℕ) (at : ℕ) (a : List ℕ) → length (put_all l at a) ≡ length l
+pub adds_none : (l : Text) → Adds l l [] 0
 unfolding put_all
-length_put_all l at [] = refl
-length_put_all l at (x ∷ a) = length_put_all (set l at x) (at + 1) a ∙ length-set l at x
+adds_none l =
+    record { put = record { written = refl; after = omega arith; short = omega arith }; same = refl }
 
-module _ {l m : List ℕ} {at p : ℕ} {a : List ℕ} {x : ℕ} (first : Put l m at p a x) where
+module _ {k l : Text} {a : List ℕ} {x : ℕ} (first : Adds k l a x) where
   -- another text after it
-  pub put_both : {k : List ℕ} {q : ℕ} {b : List ℕ} {y : ℕ} → Put m k p q b y → Put l k at q (a ++ b) (x + y)
-  put_both {b = b} second =
+  pub adds_both : {m : Text} {b : List ℕ} {y : ℕ} → Adds l m b y → Adds k m (a ++ b) (x + y)
+  adds_both {b = b} second =
       record {
-        written = second.written ∙ rw (first.written, first.after) (put_append l at a b);
-        after = rw length-append (omega arith);
-        short = rw length-append (omega arith);
+        put = record {
+          written = second.put.written ∙ rw (first.put.written, first.put.after) (put_append k.out.now k.at a b);
+          after = rw length-append (omega (arith, first.put.after, second.put.after));
+          short = rw length-append (omega (arith, first.put.short, second.put.short));
+        };
+        same = second.same ∙ first.same;
       }
 
   -- a wider bound
-  pub put_within : {y : ℕ} → x ≤ y → Put l m at p a y
-  put_within h = record { written = first.written; after = first.after; short = omega arith }
-
-  -- the buffer keeps its length
-  pub put_length : length m ≡ length l
-  put_length = ap length first.written ∙ length_put_all l at a
+  pub adds_within : {y : ℕ} → x ≤ y → Adds k l a y
+  adds_within h =
+      record { put = record { written = first.put.written; after = first.put.after; short = omega (arith, first.put.short) }; same = first.same }

@@ -1,12 +1,11 @@
 -- What the listing program prints for a file. A text is the list of its bytes, in ASCII.
 -- Assumes nothing.
-use Rattle.std.specs.Prelude.{cond, List, [], ◌∷◌, ◌++◌, ℕ, zero, suc, ◌+◌, ◌/◌, ◌%◌, eqb, ltb}
+use Rattle.std.specs.Prelude.{cond, List, [], ◌∷◌, ◌++◌, ℕ, zero, suc, ◌+◌, ◌/◌, ◌%◌, eqb, ltb, Ok, Err}
 use Rattle.record.specs.Records.{message_at, field_at}
 use Rattle.record.specs.declared.Field.{Field}
 use Rattle.layout.specs.Numbers.{number_of, byte_of}
-use Rattle.layout.specs.Verdict.{verdict}
+use Rattle.layout.specs.Verdict.{Verdict, verdict}
 use Rattle.layout.specs.declared.Refusal.{Refusal}
-use Rattle.layout.specs.declared.Verdict.{Verdict}
 
 -- a number in decimal: its last digit after those of a tenth of it; the first number only counts the digits down
 unfoldable pub digits : ℕ → ℕ → List ℕ
@@ -67,8 +66,8 @@ unfoldable pub refusal_text : Refusal → ℕ → List ℕ
 refusal_text refusal at = refused_word ++ (decimal (number_of refusal) ++ (record_word ++ (decimal at ++ (byte_text (byte_of refusal) ++ newline))))
 
 abbrev pub listing_of : List ℕ → Verdict → List ℕ
-listing_of s (Verdict.Accepted F M D) = heading ++ lines s F M D
-listing_of s (Verdict.Refused refusal at) = refusal_text refusal at
+listing_of s (Ok c) = heading ++ lines s c.frames c.messages c.fields
+listing_of s (Err r) = refusal_text r.refusal r.«record»
 
 -- what the program prints
 unfoldable pub listing : List ℕ → List ℕ

@@ -1,12 +1,10 @@
 -- What a call or a closing makes of one message: its state from the one before, by what the layout says of it.
 -- Assumes nothing.
-use Rattle.std.specs.Prelude.{Bool, not, cond, ◌&&◌, List, [], ◌∷◌, ℕ, ℤ}
+use Rattle.std.specs.Prelude.{Bool, not, cond, ◌&&◌, Option, Some, None, List, [], ◌∷◌, ℕ, ℤ}
 use Rattle.packing.specs.Values.{in_range, pattern_of}
 use Rattle.float.specs.Patterns.{aside}
 use Rattle.agreement.specs.Agreement.{agreed}
 use Rattle.agreement.specs.Floats.{floats_agreed}
-use Rattle.agreement.specs.declared.Agreed.{Agreed}
-use Rattle.agreement.specs.declared.Agreed.TheVariants.{Value, NoResult}
 use Rattle.filter.specs.Filter.{passes}
 use Rattle.store.specs.declared.Message.{Message}
 use Rattle.store.specs.declared.MessageState.{MessageState}
@@ -54,7 +52,7 @@ status_of stopped = 21
 status_of held = 0
 
 -- what the counting instances agree on, by the message's agreement: whole numbers, or floats
-unfoldable pub agreed_by : Message → List ℤ → Agreed
+unfoldable pub agreed_by : Message → List ℤ → Option ℤ
 agreed_by g l = cond (is_float g) (floats_agreed g.agreement l) (agreed g.agreement l)
 
 -- an agreed value goes to the filter: if it passes it is held; if not, the held value stays
@@ -62,9 +60,9 @@ unfoldable pub filtered : Message → MessageState → ℤ → MessageState
 filtered g s v = cond (passes_now g s v) (with_status (status_of held) (with_held (pattern_of 32 v) s)) (with_status (status_of stopped) s)
 
 -- if there is one
-abbrev pub agreed_on : Message → MessageState → Agreed → MessageState
-agreed_on g s NoResult = with_status (status_of failed) s
-agreed_on g s (Value v) = filtered g s v
+abbrev pub agreed_on : Message → MessageState → Option ℤ → MessageState
+agreed_on g s None = with_status (status_of failed) s
+agreed_on g s (Some v) = filtered g s v
 
 -- the state after a round in which none of its frames came, or some did, and those instances count
 abbrev pub settled : Message → MessageState → Bool → List ℤ → MessageState

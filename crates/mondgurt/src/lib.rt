@@ -5,7 +5,7 @@ ghost use Rattle.std.specs.Prelude.{not, eqb};
 ghost use Rattle.calls.specs.Relations.{send, invalidate, assemble, consumed, read_flag, deliver, close, receive};
 ghost use Rattle.calls.specs.Relations.{nothing, buffer as a_buffer, flag as a_flag, value as a_value, sees, Does, Loads};
 
-// MONDGURT_NODE bytes.
+// MONDGURT_NODE bytes, written out and not `store::Node`: tools/exports reads the size here.
 type Node = [u8; 2851];
 
 #[unsafe(no_mangle)]

@@ -18,8 +18,7 @@ use lib.Seq.{length-paste, drop-paste, get_or-drop, get_or-set_same, get_or-set_
 use borrow.Author.Tests.{ltb-true, eqb-true, not-true, not-false}
 use Rattle.packing.specs.Values.{value_of, pattern_of}
 use Rattle.packing.proofs.Values.{pattern_below, value_pattern, range_wider}
-use Rattle.agreement.specs.declared.Agreed.{Agreed}
-use Rattle.agreement.specs.declared.Agreed.TheVariants.{Value, NoResult}
+use Rattle.std.specs.Prelude.{Option, Some, None}
 use Rattle.store.specs.declared.Stage.{Stage}
 use Rattle.store.specs.declared.Stage.TheVariants.{Waiting, Loaded, Gone}
 use Rattle.store.specs.declared.Frame.{Frame}
@@ -172,15 +171,15 @@ module _ {g : Message} where
         by_test (SoundMessageState g) (passes_now g s v) (λ t. status_kept 0 (inl refl) received held_kept)
         (λ t. status_kept 21 (inr (inr (inl refl))) received h)
 
-  settled_kept : {s : MessageState} (none : Bool) (l : List ℤ) → ((v : ℤ) → agreed_by g l ≡ Value v → can_hold g v ≡ true) → is_sent g ≡ false
+  settled_kept : {s : MessageState} (none : Bool) (l : List ℤ) → ((v : ℤ) → agreed_by g l ≡ Some v → can_hold g v ≡ true) → is_sent g ≡ false
       → SoundMessageState g s → SoundMessageState g (settled g s none l)
   settled_kept none [] can received h =
       status_kept _ (by_test IsStatus none (λ t. inr (inr (inl refl))) (λ t. inr (inr (inr refl)))) received h
   settled_kept {s} none (v ∷ l) can received h = go (agreed_by g (v ∷ l)) can
     where
-      go : (a : Agreed) → ((u : ℤ) → a ≡ Value u → can_hold g u ≡ true) → SoundMessageState g (agreed_on g s a)
-      go NoResult k = status_kept 20 (inr (inl refl)) received h
-      go (Value u) k = filtered_kept u (k u refl) h received
+      go : (a : Option ℤ) → ((u : ℤ) → a ≡ Some u → can_hold g u ≡ true) → SoundMessageState g (agreed_on g s a)
+      go None k = status_kept 20 (inr (inl refl)) received h
+      go (Some u) k = filtered_kept u (k u refl) h received
 
 -- ---- a delivery, and a stage
 

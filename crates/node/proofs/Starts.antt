@@ -12,8 +12,8 @@ use lib.Dec.{eqb}
 use borrow.Author.Tests.{lt-ltb, le-ltb, eqb-true, not-true, not-false}
 use Rattle.packing.specs.Values.{in_range, value_of, extended}
 use Rattle.packing.proofs.Values.{pattern_below, extended_pattern, extended_value}
-use Rattle.layout.specs.Verdict.{verdict}
-use Rattle.layout.specs.declared.Verdict.{Verdict}
+use Rattle.layout.specs.Verdict.{Verdict, verdict}
+use Rattle.std.specs.Prelude.{Ok, Err}
 use Rattle.layout.specs.WellLaid.{WellLaid}
 use Rattle.layout.proofs.Accepted.{accepted}
 use Rattle.layout.proofs.Node.{few_messages}
@@ -111,9 +111,9 @@ unfolding load_of
 load_makes n s = go (verdict s) refl
   where
     go : (v : Verdict) → verdict s ≡ v → (loaded n s v).answer ≡ 0 → Makes n s
-    go (Verdict.Accepted F M D) e done =
-        record { frames = F; messages = M; fields = D; well_laid = (accepted s F M D).0 e; node = rw e }
-    go (Verdict.Refused n at) e done = absurd (omega (arith, number_to_ten n))
+    go (Ok c) e done =
+        record { frames = c.frames; messages = c.messages; fields = c.fields; well_laid = (accepted s c.frames c.messages c.fields).0 e; node = rw e }
+    go (Err r) e done = absurd (omega (arith, number_to_ten r.refusal))
 
 pub sound_load : (n : Node) (s : List ℕ) → (load_of n s).answer ≡ 0 → Sound (load_of n s).node
 sound_load n s done =

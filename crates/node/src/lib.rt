@@ -3,28 +3,24 @@
 
 ghost use Rattle.std.specs.Prelude.{◌≡◌, ◌<◌, length};
 ghost use Rattle.whole.specs.Whole.{all_of};
-ghost use Rattle.store.specs.Node.{node_size, layout_of, state_of, node_of, message_at, state_at, node_with};
-ghost use Rattle.own.specs.Own.{places_of, cells_of, fields_of};
+ghost use Rattle.store.specs.Node.{layout_of, state_of, node_of, message_at, state_at, node_with};
+ghost use Rattle.own.specs.Own.{InMemory, cells_of, fields_of};
+ghost use Rattle.node.specs.Answers.{number_of, answer_of, goes, message_of, frame_of};
 ghost use Rattle.node.specs.Calls.{
   left,
   outcome,
   moved,
-  send_answer,
   send_of,
-  invalidate_answer,
   invalidate_of,
   all_invalid,
   suppressed,
-  assemble_answer,
   written,
   assemble_of,
   assembled,
-  consumed_answer,
   consumed_of,
   flag_answer,
   gone_at,
   flag_place,
-  deliver_answer,
   deliver_of,
   receive_answer,
   received_place,
@@ -32,367 +28,327 @@ ghost use Rattle.node.specs.Calls.{
 ghost use Rattle.closing.specs.Closing.{close_of};
 ghost use Rattle.node.specs.Load.{load_of};
 
-use layout::Verdict;
+use layout::Refused;
 use message::Change;
-use own::{Owner, Places};
-use record::Field;
-use store::{Frame, Message, MessageState};
+use own::Owner;
+use store::{Frame, Message, MessageState, Node};
+
+// Of a call that changes the node the public function answers the number of what the other answers.
+
+// ---- refusals
+
+// Why a call is refused.
+#[derive(Clone, Copy, PartialEq, Eq)]
+enum CallRefusal {
+    Id,
+    Access,
+    Value,
+    NoFunc,
+    Suppressed,
+}
+
+// The paper's number.
+impl From<CallRefusal> for u8 {
+    ghost from_gives = { λ refused number. number ≡ number_of refused };
+
+    fn from(refused: CallRefusal) -> u8 {
+        match refused {
+            CallRefusal::Id => 16,
+            CallRefusal::Access => 17,
+            CallRefusal::Value => 18,
+            CallRefusal::NoFunc => 19,
+            CallRefusal::Suppressed => 23,
+        }
+    }
+}
+
+// 0, or the refusal's number: C and the promises have numbers.
+fn answer(done: Result<(), CallRefusal>) -> u8
+    ensures { result ≡ answer_of done }
+{
+    match done {
+        Ok(()) => 0,
+        Err(refused) => u8::from(refused),
+    }
+}
+
+// ---- the first two tests
+
+// Which way a message or a frame goes.
+#[derive(Clone, Copy, PartialEq, Eq)]
+enum Way {
+    Received,
+    Sent,
+}
+
+impl Way {
+    // Whether what is sent, or not, goes this way.
+    fn goes(self, sent: bool) -> bool
+        ensures { result ≡ goes self sent }
+    {
+        match self {
+            Way::Received => !sent,
+            Way::Sent => sent,
+        }
+    }
+}
+
+// Twice, for a message and for a frame, as `its_message` and `its_state` are, and by no trait: it would have three methods and their laws for two callers.
+fn message_of(node: &Node, message: u64, way: Way) -> Result<(u8, Message), CallRefusal>
+    ensures { result ≡ message_of (layout_of node.now) message way }
+{
+    if !store::has_message(node, message) {
+        return Err(CallRefusal::Id);
+    }
+    let g = store::message_at(node, message as usize);
+    if !way.goes(g.is_sent()) {
+        return Err(CallRefusal::Access);
+    }
+    Ok((message as u8, g))
+}
+
+fn frame_of(node: &Node, frame: u64, way: Way) -> Result<(u8, Frame), CallRefusal>
+    ensures { result ≡ frame_of (layout_of node.now) frame way }
+{
+    if !store::has_frame(node, frame) {
+        return Err(CallRefusal::Id);
+    }
+    let h = store::frame_at(node, frame as usize);
+    if !way.goes(h.is_sent()) {
+        return Err(CallRefusal::Access);
+    }
+    Ok((frame as u8, h))
+}
 
 // ---- an owner's fields
 
-// An owner's fields, which are at those places, move on; the other cells stay.
-fn move_fields(node: &mut [u8], owner: Owner, own: Places, change: Change)
-    requires { (own ≡ places_of (layout_of node.old) owner) × (length node.old ≡ node_size) }
+// An owner's fields move on; the other cells stay. No iterator of the fields: it would lend the node while their stages are written.
+// And no step that lends nothing, `while let Some(d) = owner.next_cell(node, &mut places)`: it needs a measure at each loop, and `for` none.
+fn move_fields(node: &mut Node, owner: Owner, change: Change)
+    requires { InMemory owner }
     ensures { node_of node.new ≡ node_with (node_of node.old) (moved change owner (node_of node.old)) }
 {
-    let from = own.from;
-    let end = own.end;
-    for i in from..end {
-        let d = own::cell_at(&node[..], owner, i);
-        if own::owns(&node[..], owner, d) {
-            let x = store::field_at(&node[..], d);
-            store::put_stage(&mut *node, d, message::stage_after(change, x));
+    for i in own::places_of(node, owner) {
+        let d = own::cell_at(node, owner, i);
+        if own::owns(node, owner, d) {
+            let x = store::field_at(node, d);
+            store::put_stage(node, d, message::stage_after(change, x));
         }
     }
 }
 
 // ---- send
 
-fn send_answer(node: &[u8], message: u64, value: i64) -> u8
-    requires { length node.now ≡ node_size }
-    ensures { result ≡ send_answer (layout_of node.now) message value }
+fn try_send(node: &mut Node, message: u64, value: i64) -> Result<(), CallRefusal>
+    ensures { left (answer_of result) node.new ≡ send_of (node_of node.old) message value }
 {
-    if !store::has_message(node, message) {
-        return 16;
-    }
-    let g = store::message_at(node, message as usize);
-    if !(g.direction == 1) {
-        return 17;
-    }
+    let (m, g) = message_of(node, message, Way::Sent)?;
     if !message::can_hold(g, value) {
-        return 18;
+        return Err(CallRefusal::Value);
     }
-    0
+    move_fields(node, Owner::Message(m), Change::Send);
+    // Read again, so that it need not be kept meanwhile.
+    let g = store::message_at(node, m as usize);
+    let s = store::state_at(node, m as usize);
+    store::put_state(node, m as usize, message::offered_state(g, s, value));
+    Ok(())
 }
 
-pub fn send(node: &mut [u8], message: u64, value: i64) -> u8
-    requires { length node.old ≡ node_size }
+pub fn send(node: &mut Node, message: u64, value: i64) -> u8
     ensures { left result node.new ≡ send_of (node_of node.old) message value }
 {
-    let answer = send_answer(&node[..], message, value);
-    if answer != 0 {
-        return answer;
-    }
-    let owner = Owner::Message(message as u8);
-    let own = own::places_of(&node[..], owner);
-    move_fields(&mut *node, owner, own, Change::Send);
-    let m = message as usize;
-    let g = store::message_at(&node[..], m);
-    let s = store::state_at(&node[..], m);
-    store::put_state(node, m, message::offered_state(g, s, value));
-    0
+    answer(try_send(node, message, value))
 }
 
 // ---- invalidate
 
-fn invalidate_answer(node: &[u8], message: u64) -> u8
-    requires { length node.now ≡ node_size }
-    ensures { result ≡ invalidate_answer (layout_of node.now) message }
+fn try_invalidate(node: &mut Node, message: u64) -> Result<(), CallRefusal>
+    ensures { left (answer_of result) node.new ≡ invalidate_of (node_of node.old) message }
 {
-    if !store::has_message(node, message) {
-        return 16;
+    let (m, g) = message_of(node, message, Way::Sent)?;
+    if !g.has_status_bit() {
+        return Err(CallRefusal::NoFunc);
     }
-    let g = store::message_at(node, message as usize);
-    if !(g.direction == 1) {
-        return 17;
-    }
-    if g.statusbit == 0 {
-        return 19;
-    }
-    0
+    let s = store::state_at(node, m as usize);
+    store::put_state(node, m as usize, message::invalidated_state(s));
+    Ok(())
 }
 
-pub fn invalidate(node: &mut [u8], message: u64) -> u8
-    requires { length node.old ≡ node_size }
+pub fn invalidate(node: &mut Node, message: u64) -> u8
     ensures { left result node.new ≡ invalidate_of (node_of node.old) message }
 {
-    let answer = invalidate_answer(&node[..], message);
-    if answer != 0 {
-        return answer;
-    }
-    let m = message as usize;
-    let s = store::state_at(&node[..], m);
-    store::put_state(node, m, message::invalidated_state(s));
-    0
+    answer(try_invalidate(node, message))
 }
 
 // ---- assemble
 
-// A field's message, or none: on any memory a field may name one that the memory has not.
-fn its_message(node: &[u8], x: Field) -> Message
-    requires { length node.now ≡ node_size }
-    ensures { result ≡ message_at (layout_of node.now) x.message }
+// A message that a field names, or none: on any memory that may be one that the memory has not.
+fn its_message(node: &Node, m: u8) -> Message
+    ensures { result ≡ message_at (layout_of node.now) m }
 {
-    if x.message < 32 {
-        return store::message_at(node, x.message as usize);
+    if m < 32 {
+        return store::message_at(node, m as usize);
     }
     store::no_message()
 }
 
-fn its_state(node: &[u8], x: Field) -> MessageState
-    requires { length node.now ≡ node_size }
-    ensures { result ≡ state_at (state_of node.now) x.message }
+fn its_state(node: &Node, m: u8) -> MessageState
+    ensures { result ≡ state_at (state_of node.now) m }
 {
-    if x.message < 32 {
-        return store::state_at(node, x.message as usize);
+    if m < 32 {
+        return store::state_at(node, m as usize);
     }
     store::no_state()
 }
 
-// Whether the frame has a field, and all messages of its fields are invalid.
-fn all_invalid(node: &[u8], frame: u8) -> bool
-    requires { (frame < 32) × (length node.now ≡ node_size) }
+// Whether the frame has a field, and all messages of its fields are invalid. Not `all`: a frame without fields is not suppressed.
+fn all_invalid(node: &Node, frame: u8) -> bool
+    requires { frame < 32 }
     ensures { result ≡ all_invalid (state_of node.now) (fields_of (layout_of node.now) (Owner.Frame frame)) }
 {
-    let owner = Owner::Frame(frame);
-    let own = own::places_of(node, owner);
-    let from = own.from;
-    let end = own.end;
     let mut some = false;
-    for i in from..end {
-        let d = own::cell_at(node, owner, i);
-        if own::owns(node, owner, d) {
-            let s = its_state(node, store::laid_at(node, d));
-            if !(s.valid == 0) {
-                return false;
-            }
-            some = true;
+    for x in Owner::Frame(frame).fields(node) {
+        if its_state(node, x.laid.message).is_valid() {
+            return false;
         }
+        some = true;
     }
     some
 }
 
-fn is_suppressed(node: &[u8], frame: u8) -> bool
-    requires { (frame < 32) × (length node.now ≡ node_size) }
+#[tactic(auto, unfolding(crate::specs::Calls::suppressed))]
+fn is_suppressed(node: &Node, frame: u8) -> bool
+    requires { frame < 32 }
     ensures { result ≡ suppressed (node_of node.now) frame }
 {
-    let h = store::frame_at(node, frame as usize);
-    if !(h.trigger == 1) {
-        return false;
-    }
-    all_invalid(node, frame)
+    store::frame_at(node, frame as usize).is_event() && all_invalid(node, frame)
 }
 
-fn assemble_answer(node: &[u8], frame: u64, size: usize) -> u8
-    requires { length node.now ≡ node_size }
-    ensures { result ≡ assemble_answer (node_of node.now) frame size }
-{
-    if !store::has_frame(node, frame) {
-        return 16;
-    }
-    let h = store::frame_at(node, frame as usize);
-    if !(h.direction == 1) {
-        return 17;
-    }
-    if !(size == h.length as usize) {
-        return 18;
-    }
-    if is_suppressed(node, frame as u8) {
-        return 23;
-    }
-    0
-}
-
-// The frame's fields write what they carry into the buffer, and move on.
-fn load_fields(node: &mut [u8], frame: u8, h: Frame, buffer: &mut [u8])
-    requires { (frame < 32) × (length node.old ≡ node_size) }
+// The frame's fields write what they carry into the buffer, and move on. No iterator of them, as in `move_fields`.
+fn load_fields(node: &mut Node, frame: u8, h: Frame, buffer: &mut [u8])
+    requires { frame < 32 }
     ensures { (node_of node.new ≡ node_with (node_of node.old) (moved Change.Load (Owner.Frame frame) (node_of node.old))) × (buffer.new ≡ written (node_of node.old) h (fields_of (layout_of node.old) (Owner.Frame frame)) buffer.old) }
 {
     let owner = Owner::Frame(frame);
-    let own = own::places_of(&node[..], owner);
-    let from = own.from;
-    let end = own.end;
-    for i in from..end {
-        let d = own::cell_at(&node[..], owner, i);
-        if own::owns(&node[..], owner, d) {
-            let x = store::laid_at(&node[..], d);
+    for i in own::places_of(node, owner) {
+        let d = own::cell_at(node, owner, i);
+        if own::owns(node, owner, d) {
+            let x = store::laid_at(node, d);
             message::write_field(
-                &mut *buffer,
+                buffer,
                 h,
-                its_message(&node[..], x),
-                its_state(&node[..], x),
+                its_message(node, x.message),
+                its_state(node, x.message),
                 x,
             );
-            let y = store::field_at(&node[..], d);
-            store::put_stage(&mut *node, d, message::stage_after(Change::Load, y));
+            let y = store::field_at(node, d);
+            store::put_stage(node, d, message::stage_after(Change::Load, y));
         }
     }
 }
 
-pub fn assemble(node: &mut [u8], frame: u64, buffer: &mut [u8]) -> u8
-    requires { length node.old ≡ node_size }
+fn try_assemble(node: &mut Node, frame: u64, buffer: &mut [u8]) -> Result<(), CallRefusal>
+    ensures { (left (answer_of result) node.new ≡ assemble_of (node_of node.old) frame (length buffer.old)) × (buffer.new ≡ assembled (node_of node.old) frame buffer.old) }
+{
+    let (f, h) = frame_of(node, frame, Way::Sent)?;
+    if buffer.len() != h.length as usize {
+        return Err(CallRefusal::Value);
+    }
+    if is_suppressed(node, f) {
+        return Err(CallRefusal::Suppressed);
+    }
+    load_fields(node, f, h, buffer);
+    Ok(())
+}
+
+pub fn assemble(node: &mut Node, frame: u64, buffer: &mut [u8]) -> u8
     ensures { (left result node.new ≡ assemble_of (node_of node.old) frame (length buffer.old)) × (buffer.new ≡ assembled (node_of node.old) frame buffer.old) }
 {
-    let answer = assemble_answer(&node[..], frame, buffer.len());
-    if answer != 0 {
-        return answer;
-    }
-    let f = frame as u8;
-    let h = store::frame_at(&node[..], frame as usize);
-    load_fields(node, f, h, buffer);
-    0
+    answer(try_assemble(node, frame, buffer))
 }
 
 // ---- consumed
 
-fn consumed_answer(node: &[u8], frame: u64) -> u8
-    requires { length node.now ≡ node_size }
-    ensures { result ≡ consumed_answer (layout_of node.now) frame }
+fn try_consumed(node: &mut Node, frame: u64) -> Result<(), CallRefusal>
+    ensures { left (answer_of result) node.new ≡ consumed_of (node_of node.old) frame }
 {
-    if !store::has_frame(node, frame) {
-        return 16;
-    }
-    let h = store::frame_at(node, frame as usize);
-    if !(h.direction == 1) {
-        return 17;
-    }
-    0
+    let (f, _) = frame_of(node, frame, Way::Sent)?;
+    move_fields(node, Owner::Frame(f), Change::Consume);
+    Ok(())
 }
 
-pub fn consumed(node: &mut [u8], frame: u64) -> u8
-    requires { length node.old ≡ node_size }
+pub fn consumed(node: &mut Node, frame: u64) -> u8
     ensures { left result node.new ≡ consumed_of (node_of node.old) frame }
 {
-    let answer = consumed_answer(&node[..], frame);
-    if answer != 0 {
-        return answer;
-    }
-    let owner = Owner::Frame(frame as u8);
-    let own = own::places_of(&node[..], owner);
-    move_fields(node, owner, own, Change::Consume);
-    0
+    answer(try_consumed(node, frame))
 }
 
 // ---- read flag
 
-fn all_gone(node: &[u8], message: u8) -> bool
-    requires { (message < 32) × (length node.now ≡ node_size) }
+fn all_gone(node: &Node, message: u8) -> bool
+    requires { message < 32 }
     ensures { result ≡ all_of (gone_at (state_of node.now)) (cells_of (layout_of node.now) (Owner.Message message)) }
 {
-    let owner = Owner::Message(message);
-    let own = own::places_of(node, owner);
-    let from = own.from;
-    let end = own.end;
-    for i in from..end {
-        let d = own::cell_at(node, owner, i);
-        if own::owns(node, owner, d) {
-            if !message::is_gone(store::field_at(node, d)) {
-                return false;
-            }
-        }
-    }
-    true
+    Owner::Message(message).fields(node).all(message::is_gone)
 }
 
-fn flag_answer(node: &[u8], message: u64) -> u8
-    requires { length node.now ≡ node_size }
-    ensures { result ≡ flag_answer (layout_of node.now) message }
-{
-    if !store::has_message(node, message) {
-        return 16;
-    }
-    let g = store::message_at(node, message as usize);
-    if !(g.direction == 1) {
-        return 16;
-    }
-    0
-}
-
-pub fn read_flag(node: &[u8], message: u64, flag: &mut u8) -> u8
-    requires { length node.now ≡ node_size }
+pub fn read_flag(node: &Node, message: u64, flag: &mut u8) -> u8
     ensures { (result ≡ flag_answer (layout_of node.now) message) × (flag.new ≡ flag_place (node_of node.now) message flag.old) }
 {
-    let answer = flag_answer(node, message);
-    if answer != 0 {
-        return answer;
+    match message_of(node, message, Way::Sent) {
+        Ok((m, _)) => {
+            *flag = u8::from(all_gone(node, m));
+            0
+        }
+        Err(_) => u8::from(CallRefusal::Id), // for a received message too
     }
-    *flag = all_gone(node, message as u8) as u8;
-    0
 }
 
 // ---- deliver
 
-fn deliver_answer(node: &[u8], frame: u64, size: usize) -> u8
-    requires { length node.now ≡ node_size }
-    ensures { result ≡ deliver_answer (layout_of node.now) frame size }
+fn try_deliver(node: &mut Node, frame: u64, valid: bool, bytes: &[u8]) -> Result<(), CallRefusal>
+    ensures { left (answer_of result) node.new ≡ deliver_of (node_of node.old) frame valid bytes.now }
 {
-    if !store::has_frame(node, frame) {
-        return 16;
+    let (f, h) = frame_of(node, frame, Way::Received)?;
+    if bytes.len() != h.length as usize {
+        return Err(CallRefusal::Value);
     }
-    let h = store::frame_at(node, frame as usize);
-    if h.direction == 1 {
-        return 17;
+    if valid {
+        let n = bytes.len().min(32);
+        store::put_data(node, f as usize, &bytes[..n]);
+        store::put_mark(node, f as usize, 1);
     }
-    if !(size == h.length as usize) {
-        return 18;
-    }
-    0
+    Ok(())
 }
 
 // Of a frame that is longer than the memory has room for, which no layout has, the first 32 bytes are kept.
-pub fn deliver(node: &mut [u8], frame: u64, valid: bool, bytes: &[u8]) -> u8
-    requires { length node.old ≡ node_size }
+pub fn deliver(node: &mut Node, frame: u64, valid: bool, bytes: &[u8]) -> u8
     ensures { left result node.new ≡ deliver_of (node_of node.old) frame valid bytes.now }
 {
-    let answer = deliver_answer(&node[..], frame, bytes.len());
-    if answer != 0 {
-        return answer;
-    }
-    if valid {
-        let f = frame as usize;
-        let n = store::smaller(bytes.len(), 32);
-        store::put_data(&mut *node, f, &bytes[..n]);
-        store::put_mark(node, f, 1);
-    }
-    0
+    answer(try_deliver(node, frame, valid, bytes))
 }
 
 // ---- receive
 
-fn receive_answer(node: &[u8], message: u64) -> u8
-    requires { length node.now ≡ node_size }
-    ensures { result ≡ receive_answer (node_of node.now) message }
-{
-    if !store::has_message(node, message) {
-        return 16;
-    }
-    let g = store::message_at(node, message as usize);
-    if g.direction == 1 {
-        return 17;
-    }
-    let s = store::state_at(node, message as usize);
-    s.status
-}
-
-pub fn receive(node: &[u8], message: u64, value: &mut i64) -> u8
-    requires { length node.now ≡ node_size }
+// The status of the last closing; with 0 the place takes the held value.
+pub fn receive(node: &Node, message: u64, value: &mut i64) -> u8
     ensures { (result ≡ receive_answer (node_of node.now) message) × (value.new ≡ received_place (node_of node.now) message value.old) }
 {
-    let answer = receive_answer(node, message);
-    if answer != 0 {
-        return answer;
+    match message_of(node, message, Way::Received) {
+        Ok((m, g)) => {
+            let s = store::state_at(node, m as usize);
+            if s.status == 0 {
+                *value = packing::value_of(s.held, 32, g.is_signed());
+            }
+            s.status
+        }
+        Err(refused) => u8::from(refused),
     }
-    let m = message as usize;
-    let g = store::message_at(node, m);
-    let s = store::state_at(node, m);
-    *value = packing::value_of(s.held, 32, g.sign == 1);
-    0
 }
 
 // ---- close
 
-pub fn close(node: &mut [u8]) -> u8
-    requires { length node.old ≡ node_size }
+pub fn close(node: &mut Node) -> u8
     ensures { left result node.new ≡ outcome 0 (close_of (node_of node.old)) (node_of node.old) }
 {
     closing::close_round(node);
@@ -402,20 +358,15 @@ pub fn close(node: &mut [u8]) -> u8
 // ---- load
 
 // The verdict first: a refusal changes nothing, and answers its number, 256 times its record and 65,536 times its byte.
-pub fn load(node: &mut [u8], file: &[u8]) -> u32
-    requires { length node.old ≡ node_size }
+pub fn load(node: &mut Node, file: &[u8]) -> u32
     ensures { left result node.new ≡ load_of (node_of node.old) file.now }
 {
     match reader::read_layout(file) {
-        Verdict::Accepted {
-            frames,
-            messages,
-            fields,
-        } => {
-            start::start(node, file, frames, messages, fields);
+        Ok(counts) => {
+            start::start(node, file, counts);
             0
         }
-        Verdict::Refused { refusal, record } => {
+        Err(Refused { refusal, record }) => {
             let number = layout::number_of(refusal) as u32;
             let byte = layout::byte_of(refusal) as u32;
             number + 256 * (record as u32) + 65536 * byte

@@ -10,12 +10,12 @@ use lib.Dec.{leb}
 use lib.IntN.{ℤ, pos, negsuc, +ℤ_idr}
 use lib.Signed.{quot_z}
 use borrow.Author.Tests.{leb-true, not-true}
+use Rattle.std.specs.Prelude.{Some}
 use Rattle.whole.specs.Whole.{all_of}
 use Rattle.whole.proofs.Integers.{eq_z_same}
 use Rattle.packing.specs.Values.{is_width, least, greatest, in_range, pattern_of}
 use Rattle.packing.proofs.Values.{range_wider}
 use Rattle.float.specs.Patterns.{aside}
-use Rattle.agreement.specs.declared.Agreed.TheVariants.{Value}
 use Rattle.agreement.specs.Agreement.{sum_of, mean_of, message_value, message_values, average, ahead, one_that, vote, agreed}
 use Rattle.agreement.specs.Floats.{floats_agreed}
 use Rattle.agreement.proofs.FloatLaws.{float_claims}
@@ -36,7 +36,7 @@ mean_alone v = rw (+ℤ_idr v) (by_one v)
     by_one (pos n) = ap pos (omega arith)
     by_one (negsuc n) = let same : suc n / 1 ≡ suc n = omega arith in rw same refl
 
-whole_alone : (k : ℕ) (v : ℤ) → k ≤ 2 → message_value v ≡ true → agreed k (v ∷ []) ≡ Value v
+whole_alone : (k : ℕ) (v : ℤ) → k ≤ 2 → message_value v ≡ true → agreed k (v ∷ []) ≡ Some v
 unfolding agreed average message_values all_of vote one_that ahead
 whole_alone zero v h t = refl
 whole_alone (suc zero) v h t = rw (t, mean_alone v) refl
@@ -45,7 +45,7 @@ whole_alone (suc (suc (suc k))) v h t = absurd (omega arith)
 
 -- ---- floats
 
-float_alone : (k : ℕ) (v : ℤ) → k ≤ 2 → in_range false 32 v ≡ true → is_finite v ≡ true → floats_agreed k (v ∷ []) ≡ Value v
+float_alone : (k : ℕ) (v : ℤ) → k ≤ 2 → in_range false 32 v ≡ true → is_finite v ≡ true → floats_agreed k (v ∷ []) ≡ Some v
 unfolding in_range is_width least greatest
 float_alone k (pos x) h t finite =
     let most = leb-true x (2 ^ 32 - 1) ((and-eq-true_iff (leb 0 x) (leb x (2 ^ 32 - 1))).0 t).1 in
@@ -55,13 +55,13 @@ float_alone k (negsuc n) h t finite = absurd (false≢true t)
 
 -- ---- a message's one instance
 
-pub alone : (g : Message) (v : ℤ) → g.agreement ≤ 2 → can_hold g v ≡ true → agreed_by g (v ∷ []) ≡ Value v
+pub alone : (g : Message) (v : ℤ) → g.agreement ≤ 2 → can_hold g v ≡ true → agreed_by g (v ∷ []) ≡ Some v
 unfolding agreed_by
 alone g v h t = go (is_float g) refl
   where
     range : in_range (is_signed g) g.width v ≡ true
     range = held_in_range g v t
 
-    go : (float : Bool) → is_float g ≡ float → cond float (floats_agreed g.agreement (v ∷ [])) (agreed g.agreement (v ∷ [])) ≡ Value v
+    go : (float : Bool) → is_float g ≡ float → cond float (floats_agreed g.agreement (v ∷ [])) (agreed g.agreement (v ∷ [])) ≡ Some v
     go true f = float_alone g.agreement v h (rw (float_unsigned g f) at (range_wider (is_signed g) g.width v range)) (held_finite g v f t)
     go false f = whole_alone g.agreement v h (in_range_value (is_signed g) g.width v range)

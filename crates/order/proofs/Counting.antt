@@ -14,9 +14,9 @@ use lib.Dec.{eqb}
 use lib.IntN.{ℤ}
 use lib.ListN.{length, length-map}
 use borrow.Author.Tests.{eqb-true, eq-eqb, not-true}
+use Rattle.std.specs.Prelude.{Some}
 use Rattle.packing.specs.Values.{pattern_of}
 use Rattle.float.specs.Patterns.{aside}
-use Rattle.agreement.specs.declared.Agreed.TheVariants.{Value}
 use Rattle.agreement.specs.Agreement.{mean_of, agreed}
 use Rattle.agreement.specs.Floats.{left_of, left_agreed}
 use Rattle.agreement.proofs.MessageValues.{has_mean}
@@ -141,11 +141,11 @@ module _ (n : Node) (g : Message) where
       go false b t later = later
 
 -- pick any takes the first
-first_whole : (g : Message) (l : List ℤ) (v : ℤ) (k : List ℤ) → is_float g ≡ false → g.agreement ≡ 0 → l ≡ v ∷ k → agreed_by g l ≡ Value v
+first_whole : (g : Message) (l : List ℤ) (v : ℤ) (k : List ℤ) → is_float g ≡ false → g.agreement ≡ 0 → l ≡ v ∷ k → agreed_by g l ≡ Some v
 unfolding agreed_by agreed
 first_whole g l v k whole pick e = rw (whole, pick, e) refl
 
-first_left : (a : ℕ) (l : List ℤ) (v : ℤ) (k : List ℤ) → a ≡ 0 → l ≡ v ∷ k → left_agreed a l ≡ Value v
+first_left : (a : ℕ) (l : List ℤ) (v : ℤ) (k : List ℤ) → a ≡ 0 → l ≡ v ∷ k → left_agreed a l ≡ Some v
 unfolding left_agreed
 first_left a l v k pick e = rw (pick, e) refl
 
@@ -240,14 +240,14 @@ module _ {n : Node} (s : Sound n) (m : ℕ) where
       let (k, e) = first_chosen p own d own_rise (in_own d h.part.counting) (part_of d h.part) (least_part d h) in
       (map (value_in n g) (map laid k), rw (chosen_images laid (takes_part n g) own, e) refl)
 
-  pub lowest_agreed : g.agreement ≡ 0 → (d : ℕ) → HasLowestFrame n m d → agreed_by g (instances n m) ≡ Value (carried_value n m d)
+  pub lowest_agreed : g.agreement ≡ 0 → (d : ℕ) → HasLowestFrame n m d → agreed_by g (instances n m) ≡ Some (carried_value n m d)
   unfolding instances
   lowest_agreed pick d h = go (is_float g) refl
     where
       fields : List FieldRecord
       fields = fields_of n.layout (Owner.Message m)
 
-      go : (float : Bool) → is_float g ≡ float → agreed_by g (instances n m) ≡ Value (carried_value n m d)
+      go : (float : Bool) → is_float g ≡ float → agreed_by g (instances n m) ≡ Some (carried_value n m d)
       go true float =
           let (k, e) = first_part d h in
           floats_agree n m float ∙ first_left g.agreement _ (carried_value n m d) k pick (left_part n g float fields ∙ e)
@@ -264,14 +264,14 @@ module _ {n : Node} (s : Sound n) (m : ℕ) where
       (chosen_some (counts n) _ ((some_field n.layout (Owner.Message m) (counts n)).1 (d, in_own d t, t.counting)))
 
   pub average_agreed : is_float g ≡ false → g.agreement ≡ 1 → (d : ℕ) → CountingField n m d
-      → agreed_by g (instances n m) ≡ Value (mean_of (instances n m))
+      → agreed_by g (instances n m) ≡ Some (mean_of (instances n m))
   unfolding agreed_by agreed
   average_agreed whole average d t =
       let width = (s.layout.messages m (known d t)).width in
       rw (whole, average) (sym (has_mean (instances n m) (instances_held n m width (some_instance d t))))
 
   -- an agreed value that the filter passes is shown
-  pub agreed_shown : is_sent g ≡ false → (d : ℕ) → CountingField n m d → (v : ℤ) → agreed_by g (instances n m) ≡ Value v
+  pub agreed_shown : is_sent g ≡ false → (d : ℕ) → CountingField n m d → (v : ℤ) → agreed_by g (instances n m) ≡ Some v
       → passes_now g (state_at n.state m) v ≡ true → (p : ℤ) → seen_of (next n close) (receive m p) ≡ sees 0 (value v)
   agreed_shown received d t v agreed passes p =
       let before = state_at n.state m in

@@ -12,8 +12,7 @@ use lib.IntN.{ℤ}
 use lib.ListN.{length, get_or, set, get_or-eq_default}
 use lib.Seq.{get_or-set_same, set_out}
 use borrow.Author.Tests.{eqb-true, eq-eqb}
-use Rattle.agreement.specs.declared.Agreed.{Agreed}
-use Rattle.agreement.specs.declared.Agreed.TheVariants.{Value, NoResult}
+use Rattle.std.specs.Prelude.{Option, Some, None}
 use Rattle.record.specs.declared.Field.{Field as FieldRecord}
 use Rattle.store.specs.declared.Message.{Message}
 use Rattle.store.specs.declared.MessageState.{MessageState}
@@ -47,9 +46,9 @@ settled_otherwise g s none (v ∷ l) h = go (agreed_by g (v ∷ l)) h
     by_filter v true t h = absurd (h (rw t refl))
     by_filter v false t h = rw t refl
 
-    go : (a : Agreed) → ((agreed_on g s a).status ≡ 0 → ⊥) → agreed_on g s a ≡ with_status (agreed_on g s a).status s
-    go NoResult h = refl
-    go (Value v) h = by_filter v (passes_now g s v) refl h
+    go : (a : Option ℤ) → ((agreed_on g s a).status ≡ 0 → ⊥) → agreed_on g s a ≡ with_status (agreed_on g s a).status s
+    go None h = refl
+    go (Some v) h = by_filter v (passes_now g s v) refl h
 
 module _ {n : Node} (s : Sound n) (m : ℕ) (received : is_received n.layout m ≡ true) where
   abbrev g : Message
@@ -99,15 +98,15 @@ module _ {n : Node} (s : Sound n) (m : ℕ) (received : is_received n.layout m �
       closed_shown s m received p (with_status 22 before) (closed_none n m before (no_instance none) ∙ rw some refl)
 
   module _ (d : ℕ) (counting : CountingField n m d) where
-    agreed_closed : (a : Agreed) → agreed_by g (instances n m) ≡ a → closed_state n m before ≡ agreed_on g before a
+    agreed_closed : (a : Option ℤ) → agreed_by g (instances n m) ≡ a → closed_state n m before ≡ agreed_on g before a
     agreed_closed a e = closed_some n m before (some_instance s m d counting) ∙ ap (agreed_on g before) e
 
-    pub none_agreed : agreed_by g (instances n m) ≡ NoResult → (p : ℤ) → seen_of (next n close) (receive m p) ≡ sees 20 (value p)
-    none_agreed e p = closed_shown s m received p (with_status 20 before) (agreed_closed NoResult e)
+    pub none_agreed : agreed_by g (instances n m) ≡ None → (p : ℤ) → seen_of (next n close) (receive m p) ≡ sees 20 (value p)
+    none_agreed e p = closed_shown s m received p (with_status 20 before) (agreed_closed None e)
 
-    pub agreed_stopped : (v : ℤ) → agreed_by g (instances n m) ≡ Value v → passes_now g before v ≡ false
+    pub agreed_stopped : (v : ℤ) → agreed_by g (instances n m) ≡ Some v → passes_now g before v ≡ false
         → (p : ℤ) → seen_of (next n close) (receive m p) ≡ sees 21 (value p)
-    agreed_stopped v e fails p = stopped_shown s m received p v fails (agreed_closed (Value v) e)
+    agreed_stopped v e fails p = stopped_shown s m received p v fails (agreed_closed (Some v) e)
 
   pub not_held : (p : ℤ) → (answer_of (next n close) (receive m p) ≡ 0 → ⊥)
       → state_at (next n close).state m ≡ with_status (answer_of (next n close) (receive m p)) before

@@ -5,8 +5,8 @@ use mathlib.Core.Path.{◌≡◌, refl, sym, ap, subst, ◌∙◌}
 use mathlib.Core.List.{List, map}
 use Prim.Native.Nat.{ℕ}
 use native.Mathlib.Omega.{arith}
-use Rattle.layout.specs.Verdict.{verdict}
-use Rattle.layout.specs.declared.Verdict.{Verdict}
+use Rattle.std.specs.Prelude.{Ok, Err}
+use Rattle.layout.specs.Verdict.{Verdict, verdict}
 use Rattle.layout.proofs.Numbers.{number_to_ten}
 use Rattle.store.specs.Node.{Node, node_of}
 use Rattle.node.specs.Calls.{Outcome}
@@ -41,8 +41,8 @@ unfolding load_of
 one_start n n' file = go (verdict file)
   where
     go : (v : Verdict) → (loaded n file v).answer ≡ 0 → (loaded n file v).node ≡ (loaded n' file v).node
-    go (Verdict.Accepted F M D) done = refl
-    go (Verdict.Refused r at) done = absurd (omega (arith, number_to_ten r))
+    go (Ok c) done = refl
+    go (Err r) done = absurd (omega (arith, number_to_ten r.refusal))
 
 -- what a load that answers 0 leaves
 loads_node : (b file c : List ℕ) → Loads b file 0 c → node_of c ≡ (load_of (node_of b) file).node

@@ -9,10 +9,10 @@ use native.Mathlib.Omega.{arith}
 use lib.IntN.{ℤ, pos}
 use lib.ListN.{length}
 use borrow.Author.Tests.{le-leb}
+use Rattle.std.specs.Prelude.{Some, None}
 use Rattle.packing.specs.Values.{pattern_of}
 use Rattle.float.specs.Patterns.{aside}
 use Rattle.float.specs.Rounding.{over}
-use Rattle.agreement.specs.declared.Agreed.TheVariants.{Value, NoResult}
 use Rattle.agreement.specs.Agreement.{one_that, vote}
 use Rattle.agreement.specs.Floats.{left_of, sum_from, finite_value, float_mean, left_agreed, floats_agreed}
 use Rattle.agreement.proofs.Running.{left_few}
@@ -35,7 +35,7 @@ unfolding agreed_by floats_agreed
 floats_agree n m f = rw (f, le-leb (length (instances n m)) 8 (instances_few n m)) refl
 
 -- nothing left, no result
-none_agree : (k : ℕ) → left_agreed k [] ≡ NoResult
+none_agree : (k : ℕ) → left_agreed k [] ≡ None
 unfolding left_agreed float_mean vote one_that
 none_agree zero = refl
 none_agree (suc zero) = refl
@@ -62,7 +62,7 @@ module _ {n : Node} (s : Sound n) (m : ℕ) (l : m < n.layout.message_number) (r
   heard : is_received n.layout m ≡ true
   heard = is_received_lem s.layout m l received
 
-  shows_none : 0 < length (instances n m) → left_agreed g.agreement (left_of (instances n m)) ≡ NoResult
+  shows_none : 0 < length (instances n m) → left_agreed g.agreement (left_of (instances n m)) ≡ None
       → seen_of (next n close) (receive m p) ≡ sees 20 (value p)
   shows_none h e =
       closed_shown s m heard p (with_status 20 before) (closed_some n m before h ∙ ap (agreed_on g before) (floats_agree n m float ∙ e))
@@ -85,7 +85,7 @@ module _ {n : Node} (s : Sound n) (m : ℕ) (l : m < n.layout.message_number) (r
       counting : 0 < length (instances n m)
       counting = counted (instances n m) (length k) (ap length e)
 
-      finite : aside x ≡ false → finite_value x ≡ Value (pos x)
+      finite : aside x ≡ false → finite_value x ≡ Some (pos x)
       finite a = rw a refl
 
       agreed : left_agreed g.agreement (left_of (instances n m)) ≡ finite_value x

@@ -3,13 +3,14 @@
 use mathlib.Core.Path.{◌≡◌, refl}
 use mathlib.Core.List.{List}
 use Prim.Native.Nat.{ℕ}
+use Rattle.std.specs.Prelude.{Ok}
 use Rattle.packing.specs.Values.{is_width, extend, extended}
 use Rattle.record.specs.Numbers.{tally, any_below}
 use Rattle.record.specs.Records.{byte_at, word_at, is_frame, is_message, is_field, frame_at, message_at, field_at, pair_below}
 use Rattle.ranges.specs.Ranges.{wrong_if, word_fits, word_finding, frame_finding, message_finding, field_finding}
 use Rattle.ranges.specs.Ranges.{finding_of, finding_at, wrong_at, lowest_fault, range_fault}
 use Rattle.record.specs.Runs.{past_end, meet}
-use Rattle.layout.specs.Counts.{counts_before}
+use Rattle.layout.specs.Counts.{counts, counts_before}
 use Rattle.layout.specs.Verdict.{
   size_fault,
   order_fault,
@@ -26,7 +27,6 @@ use Rattle.layout.specs.Verdict.{
   judged,
   verdict,
 }
-use Rattle.layout.specs.declared.Verdict.{Verdict}
 use Rattle.layout.specs.Paper.{record_of}
 use Rattle.store.specs.Node.{Node}
 use Rattle.start.specs.Start.{start_of}
@@ -36,12 +36,12 @@ use Rattle.node.proofs.Starts.{sound_load}
 use Rattle.order.specs.Example.{sent_file, received_file}
 use Rattle.order.specs.LoadedNodes.{sender_file, alone_file, among_file, twice_file, sender, receiver_alone, receiver_among, receiver_twice, EachLoaded}
 
-pub accepted : (verdict sender_file ≡ Verdict.Accepted 1 1 1)
-    × (verdict (alone_file 0 188) ≡ Verdict.Accepted 1 1 1)
-    × (verdict (alone_file 1 188) ≡ Verdict.Accepted 1 1 1) × (verdict (alone_file 0 88) ≡ Verdict.Accepted 1 1 1)
-    × (verdict among_file ≡ Verdict.Accepted 2 2 2)
-    × (verdict (twice_file 1 2) ≡ Verdict.Accepted 2 1 2) × (verdict (twice_file 2 1) ≡ Verdict.Accepted 2 1 2)
-    × (verdict sent_file ≡ Verdict.Accepted 2 2 2) × (verdict received_file ≡ Verdict.Accepted 1 1 1)
+pub accepted : (verdict sender_file ≡ Ok (counts 1 1 1))
+    × (verdict (alone_file 0 188) ≡ Ok (counts 1 1 1))
+    × (verdict (alone_file 1 188) ≡ Ok (counts 1 1 1)) × (verdict (alone_file 0 88) ≡ Ok (counts 1 1 1))
+    × (verdict among_file ≡ Ok (counts 2 2 2))
+    × (verdict (twice_file 1 2) ≡ Ok (counts 2 1 2)) × (verdict (twice_file 2 1) ≡ Ok (counts 2 1 2))
+    × (verdict sent_file ≡ Ok (counts 2 2 2)) × (verdict received_file ≡ Ok (counts 1 1 1))
 unfolding
     sender_file alone_file among_file twice_file sent_file received_file record_of
     extended is_width extend
@@ -53,13 +53,13 @@ unfolding
 accepted = (refl, refl, refl, refl, refl, refl, refl, refl, refl)
 
 -- a file that is accepted loads on every node, and leaves its node at start
-pub loads : (file : List ℕ) (F M D : ℕ) → verdict file ≡ Verdict.Accepted F M D → (n : Node)
+pub loads : (file : List ℕ) (F M D : ℕ) → verdict file ≡ Ok (counts F M D) → (n : Node)
     → load_of n file ≡ record { answer = 0; node = start_of file F M D }
 unfolding load_of
 loads file F M D e n = rw e refl
 
 -- which is sound
-pub loaded_sound : (file : List ℕ) (F M D : ℕ) → verdict file ≡ Verdict.Accepted F M D → Sound (start_of file F M D)
+pub loaded_sound : (file : List ℕ) (F M D : ℕ) → verdict file ≡ Ok (counts F M D) → Sound (start_of file F M D)
 loaded_sound file F M D e =
     let n = start_of file F M D in
     let load = loads file F M D e n in

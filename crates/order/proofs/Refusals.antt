@@ -7,12 +7,12 @@ use Prim.Native.Nat.{ℕ, ◌/◌, ◌%◌, ◌≤◌}
 use native.Mathlib.Omega.{arith}
 use lib.ListN.{length}
 use borrow.Author.Tests.{ne_eqb}
+use Rattle.std.specs.Prelude.{Ok, Err}
 use Rattle.layout.specs.Numbers.{number_of, byte_of}
-use Rattle.layout.specs.Verdict.{verdict}
+use Rattle.layout.specs.Verdict.{Verdict, refused_at, verdict}
 use Rattle.layout.specs.declared.Refusal.{Refusal}
-use Rattle.layout.specs.declared.Verdict.{Verdict}
 use Rattle.layout.proofs.Numbers.{number_to_ten}
-use Rattle.layout.proofs.Refused.{refused_record}
+use Rattle.layout.proofs.Demands.{refused_record}
 use Rattle.store.specs.Node.{Node, node_of}
 use Rattle.node.specs.Calls.{Outcome, left, send_of, invalidate_of, assemble_answer, assemble_of, assembled, consumed_of, flag_answer, flag_place, deliver_of}
 use Rattle.node.specs.Calls.{receive_answer, received_place}
@@ -47,8 +47,8 @@ unfolding load_of
 load_refused n file h = go (verdict file) h
   where
     go : (v : Verdict) → ((loaded n file v).answer ≡ 0 → ⊥) → (loaded n file v).node ≡ n
-    go (Verdict.Accepted F M D) k = absurd (k refl)
-    go (Verdict.Refused n at) k = refl
+    go (Ok c) k = absurd (k refl)
+    go (Err r) k = refl
 
 pub load_refusal : (b file : List ℕ) (r : ℕ) (e : List ℕ) → Memory b → Memory e → left r e ≡ load_of (node_of b) file → (r ≡ 0 → ⊥) → e ≡ b
 load_refusal b file r e before after does h =
@@ -58,7 +58,7 @@ load_refusal b file r e before after does h =
 -- ---- what a refused load tells
 
 pub load_tells : (b file : List ℕ) (r : ℕ) (e : List ℕ) → left r e ≡ load_of (node_of b) file
-    → (n : Refusal) (at : ℕ) → verdict file ≡ Verdict.Refused n at
+    → (n : Refusal) (at : ℕ) → verdict file ≡ Err (refused_at n at)
     → (r % 256 ≡ number_of n) × (r / 256 % 256 ≡ at) × (r / 65536 ≡ byte_of n)
 unfolding load_of
 load_tells b file r e does n at refused =

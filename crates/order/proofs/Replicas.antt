@@ -9,9 +9,8 @@ use Prim.Native.Nat.{ℕ, ◌<◌}
 use lib.IntN.{ℤ}
 use lib.ListN.{length}
 use borrow.Author.Tests.{eqb-true}
+use Rattle.std.specs.Prelude.{Option, Some, None}
 use Rattle.packing.proofs.Frame.{agree}
-use Rattle.agreement.specs.declared.Agreed.{Agreed}
-use Rattle.agreement.specs.declared.Agreed.TheVariants.{Value, NoResult}
 use Rattle.record.specs.declared.Field.{Field as FieldRecord}
 use Rattle.store.specs.declared.Message.{Message}
 use Rattle.store.specs.declared.MessageState.{MessageState}
@@ -131,9 +130,9 @@ module _ (g g' : Message) (message : SameMessage g g') (a a' : MessageState) (sa
   unfolding agreed_by
   agreement_alike l = rw (message.sign, message.agreement)
 
-  agreed_alike : (r : Agreed) → SameClosed (agreed_on g a r) (agreed_on g' a' r)
-  agreed_alike NoResult = record { values = same; status = refl }
-  agreed_alike (Value v) = filtered_alike v
+  agreed_alike : (r : Option ℤ) → SameClosed (agreed_on g a r) (agreed_on g' a' r)
+  agreed_alike None = record { values = same; status = refl }
+  agreed_alike (Some v) = filtered_alike v
 
   settled_alike : (none : Bool) (l : List ℤ) → SameClosed (settled g a none l) (settled g' a' none l)
   settled_alike none [] = record { values = same; status = refl }

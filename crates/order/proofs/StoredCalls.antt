@@ -11,11 +11,10 @@ use lib.Dec.{eqb}
 use lib.IntN.{ℤ}
 use lib.ListN.{length, take, drop, replicate, length-take}
 use lib.Seq.{length-paste}
+use Rattle.std.specs.Prelude.{Option, Some, None}
 use Rattle.whole.specs.Whole.{Bytes}
 use Rattle.packing.specs.Values.{pattern_of}
 use Rattle.packing.proofs.Values.{pattern_below}
-use Rattle.agreement.specs.declared.Agreed.{Agreed}
-use Rattle.agreement.specs.declared.Agreed.TheVariants.{Value, NoResult}
 use Rattle.store.specs.declared.Stage.{Stage}
 use Rattle.store.specs.declared.Stage.TheVariants.{Waiting, Loaded, Gone}
 use Rattle.store.specs.declared.Message.{Message}
@@ -72,10 +71,10 @@ module _ (g : Message) {s : MessageState} (h : FitsState s) where
   offered_fits v =
       by_test FitsState (passes_now g s v) (λ t. valid_fits 1 (omega arith) (holding_fits v)) (λ t. valid_fits 0 (omega arith) h)
 
-  agreed_fits : (a : Agreed) → FitsState (agreed_on g s a)
+  agreed_fits : (a : Option ℤ) → FitsState (agreed_on g s a)
   unfolding filtered
-  agreed_fits NoResult = status_fits 20 (omega arith) h
-  agreed_fits (Value v) =
+  agreed_fits None = status_fits 20 (omega arith) h
+  agreed_fits (Some v) =
       by_test FitsState (passes_now g s v) (λ t. status_fits 0 (omega arith) (holding_fits v)) (λ t. status_fits 21 (omega arith) h)
 
   settled_fits : (none : Bool) (l : List ℤ) → FitsState (settled g s none l)

@@ -1,16 +1,14 @@
 -- What holds of all calls together. Each line is a theorem; proofs/Claims.antt says where it is proved.
 -- Assumes nothing.
-use Rattle.std.specs.Prelude.{◌≡◌, true, false, List, [], ◌∷◌, map, ◌↔◌, ℕ, ◌/◌, ◌%◌, ◌<◌, ℤ, length, take}
+use Rattle.std.specs.Prelude.{◌≡◌, true, false, List, [], ◌∷◌, map, ◌↔◌, ℕ, ◌/◌, ◌%◌, ◌<◌, ℤ, length, take, Some, None, Err}
 use Rattle.whole.specs.Whole.{Bytes}
 use Rattle.packing.specs.Values.{pattern_of}
 use Rattle.float.specs.Rounding.{over}
-use Rattle.agreement.specs.declared.Agreed.TheVariants.{Value, NoResult}
 use Rattle.agreement.specs.Agreement.{mean_of}
 use Rattle.agreement.specs.Floats.{left_of, sum_from, left_agreed}
 use Rattle.layout.specs.Numbers.{number_of, byte_of}
-use Rattle.layout.specs.Verdict.{verdict}
+use Rattle.layout.specs.Verdict.{refused_at, verdict}
 use Rattle.layout.specs.declared.Refusal.{Refusal}
-use Rattle.layout.specs.declared.Verdict.{Verdict}
 use Rattle.record.specs.declared.Field.{Field as FieldRecord}
 use Rattle.store.specs.Node.{Layout, Node, is_sent, is_float, is_delivered, is_valid, held_value, layout_size, node_of, message_at, laid_at, delivery_at, state_at}
 use Rattle.store.specs.Node.{no_delivery}
@@ -67,21 +65,21 @@ pub record Claims : Type 0 where
   pub load_refusal : (b file : List ℕ) (r : ℕ) (e : List ℕ) → Memory b → Memory e → Loads b file r e → (r ≡ 0 → ⊥) → e ≡ b
   -- A refused load tells the refusal's number, its record and the byte that it gives
   pub load_tells : (b file : List ℕ) (r : ℕ) (e : List ℕ) → Loads b file r e
-      → (n : Refusal) (at : ℕ) → verdict file ≡ Verdict.Refused n at
+      → (n : Refusal) (at : ℕ) → verdict file ≡ Err (refused_at n at)
       → (r % 256 ≡ number_of n) × (r / 256 % 256 ≡ at) × (r / 65536 ≡ byte_of n)
   -- Frame order. The instances are the values of a message's counting fields, all of them and no others, the lowest frame number first
   pub frame_order : (n : Node) → Sound n → (m : ℕ) → (l : List ℕ) × InFrameOrder n m l × (instances n m ≡ map (carried_value n m) l)
   -- Pick any. Of the instances that take part a message agrees on the one with the lowest frame number, in sound nodes
   pub lowest_agreed : (n : Node) → Sound n → (m : ℕ) → (message_at n.layout m).agreement ≡ 0 → (d : ℕ) → HasLowestFrame n m d
-      → agreed_by (message_at n.layout m) (instances n m) ≡ Value (carried_value n m d)
+      → agreed_by (message_at n.layout m) (instances n m) ≡ Some (carried_value n m d)
   -- and where one takes part, one has the lowest
   pub some_lowest : (n : Node) → Sound n → (m d : ℕ) → TakesPart n m d → (e : ℕ) × HasLowestFrame n m e
   -- The mean is never refused. Where an instance counts, a message of whole numbers with agreement 1 agrees on the mean of its instances, in sound nodes
   pub average_agreed : (n : Node) → Sound n → (m : ℕ) → is_float (message_at n.layout m) ≡ false → (message_at n.layout m).agreement ≡ 1
-      → (d : ℕ) → CountingField n m d → agreed_by (message_at n.layout m) (instances n m) ≡ Value (mean_of (instances n m))
+      → (d : ℕ) → CountingField n m d → agreed_by (message_at n.layout m) (instances n m) ≡ Some (mean_of (instances n m))
   -- and what a received message agrees on is shown after the closing with 0, if the filter passes it
   pub agreed_shown : (n : Node) → Sound n → (m : ℕ) → is_sent (message_at n.layout m) ≡ false → (d : ℕ) → CountingField n m d
-      → (v : ℤ) → agreed_by (message_at n.layout m) (instances n m) ≡ Value v
+      → (v : ℤ) → agreed_by (message_at n.layout m) (instances n m) ≡ Some v
       → passes_now (message_at n.layout m) (state_at n.state m) v ≡ true
       → (p : ℤ) → seen_of (next n close) (receive m p) ≡ sees 0 (value v)
   -- The other endings of a received message's round. No frame of it delivered, 21
@@ -95,10 +93,10 @@ pub record Claims : Type 0 where
       → ((e : ℕ) → CountingField n m e → ⊥) → (p : ℤ) → seen_of (next n close) (receive m p) ≡ sees 22 (value p)
   -- agreement without result, 20
   pub none_agreed : (n : Node) → Sound n → (m : ℕ) → is_received n.layout m ≡ true → (d : ℕ) → CountingField n m d
-      → agreed_by (message_at n.layout m) (instances n m) ≡ NoResult → (p : ℤ) → seen_of (next n close) (receive m p) ≡ sees 20 (value p)
+      → agreed_by (message_at n.layout m) (instances n m) ≡ None → (p : ℤ) → seen_of (next n close) (receive m p) ≡ sees 20 (value p)
   -- filter does not pass, 21
   pub agreed_stopped : (n : Node) → Sound n → (m : ℕ) → is_received n.layout m ≡ true → (d : ℕ) → CountingField n m d
-      → (v : ℤ) → agreed_by (message_at n.layout m) (instances n m) ≡ Value v
+      → (v : ℤ) → agreed_by (message_at n.layout m) (instances n m) ≡ Some v
       → passes_now (message_at n.layout m) (state_at n.state m) v ≡ false
       → (p : ℤ) → seen_of (next n close) (receive m p) ≡ sees 21 (value p)
   -- In these four the held value stays: wherever a receive after the closing does not answer 0, that status is all that changes of the message

@@ -13,6 +13,8 @@ use native.Mathlib.Omega.{arith}
 use lib.Dec.{eqb}
 use lib.ListN.{length, get_or}
 use borrow.Author.Tests.{eqb-true, eq-eqb}
+use Rattle.std.specs.Bool.{MatchBool}
+use Rattle.std.specs.List.{AllWithin, HoldsAt}
 use Rattle.whole.specs.Whole.{all_of}
 use Rattle.start.specs.Start.{table}
 use Rattle.own.specs.Own.{chosen, changed, is_in, Rising}
@@ -167,3 +169,22 @@ chosen_rise p f i (suc k) rise =
     after t e (there, u) =
         let (b, from, to, same) = (in_table f e (suc i) k).0 there in
         rw same at (rise i b (omega arith) (omega arith) (omega arith) t (rw same u))
+
+-- ---- what a call of `all` answered
+
+module _ {A : Type 0} (p : A → Bool) where
+  all_told : (l : List A) → AllWithin (λ x. p x ≡ true) l 0 (length l) → all_of p l ≡ true
+  unfolding all_of
+  all_told [] h = refl
+  all_told (x ∷ l) h = rw (h 0 x (omega arith) (omega arith)) (all_told l (λ k d low to. h (suc k) d (omega arith) (omega arith)))
+
+  one_fails : (l : List A) (k : ℕ) → k < length l → HoldsAt (λ x. p x ≡ false) l k → all_of p l ≡ false
+  unfolding all_of
+  one_fails [] k to h = absurd (omega arith)
+  one_fails (x ∷ l) zero to h = rw (h x) refl
+  one_fails (x ∷ l) (suc k) to h = rw (one_fails l k (omega arith) h, and-false) refl
+
+  pub all_answer : (l : List A) (r : Bool)
+      → MatchBool r (AllWithin (λ x. p x ≡ true) l 0 (length l)) ((k : ℕ) × (k < length l) × HoldsAt (λ x. p x ≡ false) l k) → r ≡ all_of p l
+  all_answer l true h = sym (all_told l h)
+  all_answer l false h = sym (one_fails l h.0 h.1 h.2)

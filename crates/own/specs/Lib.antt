@@ -1,3 +1,4 @@
 pub mod Own
+pub mod Ahead
 pub mod SoundLayout
 pub mod Claims

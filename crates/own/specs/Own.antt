@@ -2,10 +2,11 @@
 -- Assumes nothing.
 use Rattle.std.specs.Prelude.{◌≡◌, Bool, true, false, cond, ◌&&◌, ◌||◌, List, [], ◌∷◌, map, ℕ, suc, ◌+◌, ◌-◌, ◌<◌, min, eqb, ltb}
 use Rattle.record.specs.declared.Field.{Field as FieldRecord}
-use Rattle.store.specs.Node.{Layout, frame_at, message_at, laid_at, listed_at}
+use Rattle.store.specs.declared.Field.{Field}
+use Rattle.store.specs.Node.{Layout, Node, frame_at, message_at, laid_at, listed_at, field_at}
 use Rattle.start.specs.Start.{table}
 use Rattle.own.specs.declared.Owner.{Owner}
-use Rattle.own.specs.declared.Places.{Places}
+use Rattle.std.specs.declared.ops.Range.{Range}
 
 -- ---- lists
 
@@ -42,8 +43,8 @@ abbrev pub end_place : Layout → Owner → ℕ
 end_place l (Owner.Message m) = min 128 ((message_at l m).first + min (message_at l m).fields 8)
 end_place l (Owner.Frame f) = min 128 ((frame_at l f).first + (frame_at l f).fields)
 
-abbrev pub places_of : Layout → Owner → Places
-places_of l o = record { from = first_place l o; end = end_place l o }
+abbrev pub places_of : Layout → Owner → Range ℕ
+places_of l o = record { start = first_place l o; end = end_place l o }
 
 -- the cell that a place gives
 abbrev pub cell_at : Layout → Owner → ℕ → ℕ
@@ -75,3 +76,7 @@ cells_of l o = chosen (owns l o) (table (cell_at l o) (first_place l o) (end_pla
 
 abbrev pub fields_of : Layout → Owner → List FieldRecord
 fields_of l o = map (laid_at l) (cells_of l o)
+
+-- the owner's fields, each with its stage
+abbrev pub stored_of : Node → Owner → List Field
+stored_of n o = map (field_at n) (cells_of n.layout o)

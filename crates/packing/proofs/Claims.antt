@@ -4,7 +4,7 @@ use Rattle.packing.specs.Claims.{Claims}
 use Rattle.packing.proofs.Places.{little_place, big_place, places_in_inside, places_in_distinct}
 use Rattle.packing.proofs.Frame.{round_trip, packed_bit, packed_other, packed_length, packed_bytes, packed_exchange, unpacked_other, agree}
 use Rattle.packing.proofs.Frame.{packed_lowest, packed_append, unpacked_append}
-use Rattle.packing.proofs.Field.{there_and_back}
+use Rattle.packing.proofs.RoundTrip.{there_and_back}
 use Rattle.packing.proofs.Values.{value_pattern, pattern_value, value_range, extended_pattern}
 
 pub claims : Claims

@@ -1,6 +1,6 @@
 pub mod Bit
 pub mod Claims
-pub mod Field
+pub mod RoundTrip
 pub mod Frame
 pub mod Negation
 pub mod Places

@@ -7,16 +7,17 @@ use mathlib.Core.Bool.{Bool, true, false, cond}
 use mathlib.Core.List.{List, [], ◌∷◌}
 use mathlib.Core.Logic.{◌⊎◌, inl, inr}
 use Prim.Native.Nat.{ℕ, zero, suc, ◌+◌, ◌-◌, ◌*◌, ◌/◌, ◌%◌, ◌^◌, ◌<◌, ◌≤◌}
-use native.Mathlib.Nat.{add-mul, add-zero, mod-lt, mod-mod, mul_assoc, zero-add}
+use native.Mathlib.Nat.{add-mul, add-zero, mod-lt, mod-mod, zero-add}
 use native.Mathlib.Decide.{ℕ_discrete, dec_lt, dec_le}
 use native.Mathlib.Omega.{arith}
 use lib.Bits.{bit_and, and_block, and_high, and_le_l, and_le_r, and_mod, and_shr, and_zero_r, or_add_and, or_lt}
-use lib.ListN.{length, get_or, set, take, length-set}
+use lib.ListN.{length, get_or, set, take, drop, length-set}
 use lib.Pow.{high_ones, pow-add, pow_mono, pow_pos, shl_exact, shl-shr, shr_lt, shr-shr, split}
-use lib.Seq.{ext_get_or, get_or-set_other, get_or-set_same, get_or-take, set-get_or, set_out}
+use lib.Seq.{ext_get_or, get_or-set_other, get_or-set_same, get_or-drop, get_or-take, set-get_or, set_out}
+use Rattle.std.specs.Int.{w64, from_le_bytes, from_be_bytes}
 use Rattle.whole.specs.Whole.{Bytes}
 use Rattle.packing.specs.Places.{bit_of, bit_at, place_of, frame_bit, bit_places, places, in_frame, places_in, packed, unpacked, Inside}
-use Rattle.packing.specs.Window.{window_byte, window_of, with_window, replaced, with_replaced, low_bit, swapped, in_order}
+use Rattle.packing.specs.Window.{window_byte, window_of, with_window, replaced, with_replaced, low_bit}
 use Rattle.packing.proofs.Bit.{bit_low, bit_high, bit_lowest, same_bits}
 use Rattle.packing.proofs.Frame.{packed_length, packed_bytes, packed_bit, packed_other, lowest}
 use Rattle.packing.proofs.Places.{frame_bit_inside, message_bit, places_at, places_length, places_inside, places_distinct, places_apart}
@@ -158,16 +159,6 @@ module _ (big : Bool) (first past : ℕ) where
       let m : d - 1 + 1 ≡ d = omega arith in
       rw (e, m)
 
-  -- and of the code that reads eight of them, from the lowest on
-  pub read_next : (f : List ℕ) (d n : ℕ)
-      → window_of big first past f d n + get_or f (window_byte big first past (d + n)) 0 * 2 ^ (n * 8) ≡ window_of big first past f d (suc n)
-  unfolding window_of
-  read_next f d zero = let e : d + 0 ≡ d = omega arith in rw e (omega arith)
-  read_next f d (suc n) =
-      let e : d + suc n ≡ d + 1 + n = omega arith in
-      let p : 2 ^ (suc n * 8) ≡ 2 ^ (n * 8) * 256 = ap (λ (m : ℕ). 2 ^ m) (omega arith) ∙ pow-add 2 (n * 8) 8 in
-      rw (e, p, ← mul_assoc _ (2 ^ (n * 8)) 256) (omega (arith, read_next f (d + 1) n))
-
   -- the number does not depend on another byte
   window_other : (f : List ℕ) (r x d n : ℕ) → ((e : ℕ) → d ≤ e → e < d + n → window_byte big first past e ≡ r → ⊥)
       → window_of big first past (set f r x) d n ≡ window_of big first past f d n
@@ -275,32 +266,24 @@ module _ (big : Bool) (first past : ℕ) where
       in
       rw (s, m) (put_bit (d + 1) n (y / 256) e t _ (omega arith) (rw length-set i) (omega arith) l ∙ high)
 
--- the number in big order is the number in little order with its bytes swapped
-swapped_window : (first past : ℕ) (f : List ℕ) → Bytes f → (d n : ℕ) → past ≡ first + (d + n)
-    → swapped n (window_of false first past f d n) (window_of true first past f n d) ≡ window_of true first past f 0 (d + n)
-unfolding swapped window_of window_byte
-swapped_window first past f b d zero e = let z : d + 0 ≡ d = omega arith in rw z
-swapped_window first past f b d (suc n) e =
-    let s : d + suc n ≡ suc d + n = omega arith in
-    let y = window_of false first past f (d + 1) n in
-    let x = get_or f (first + d) 0 in
-    let up : (y * 256 + x) / 256 ≡ y = omega (arith, b (first + d)) in
-    let low : (y * 256 + x) % 256 ≡ x = omega (arith, b (first + d)) in
-    let at : first + d ≡ past - 1 - n = omega arith in
-    let m : n + 1 ≡ suc n = omega arith in
-    let o : d + 1 ≡ suc d = omega arith in
-    rw (s, up, low, o, at) (rw m at (swapped_window first past f b (suc d) n (omega arith)))
+-- eight of them as the kit's `from_le_bytes` and `from_be_bytes` read them
+module _ (first : ℕ) (f t : List ℕ) (same : t ≡ take 8 (drop first f)) where
+  eighth : (i : ℕ) → i < 8 → get_or t i 0 ≡ get_or f (first + i) 0
+  eighth i h = rw same (get_or-take 8 (drop first f) i 0 h ∙ get_or-drop first f i 0)
 
-big_window : (first n : ℕ) (f : List ℕ) → Bytes f
-    → swapped n (window_of false first (first + n) f 0 n) 0 ≡ window_of true first (first + n) f 0 n
-unfolding window_of
-big_window first n f b = rw (zero-add n) at (swapped_window first (first + n) f b 0 n (omega arith))
+  pub little_eight : from_le_bytes w64 t ≡ window_of false first (first + 8) f 0 8
+  unfolding window_of window_byte
+  little_eight =
+      rw (eighth 0 (omega arith), eighth 1 (omega arith), eighth 2 (omega arith), eighth 3 (omega arith))
+      (rw (eighth 4 (omega arith), eighth 5 (omega arith), eighth 6 (omega arith), eighth 7 (omega arith)) (omega arith))
 
-pub ordered_window : (big : Bool) (first : ℕ) (f : List ℕ) → Bytes f
-    → in_order big (window_of false first (first + 8) f 0 8) ≡ window_of big first (first + 8) f 0 8
-unfolding in_order
-ordered_window false first f b = refl
-ordered_window true first f b = big_window first 8 f b
+  pub big_eight : from_be_bytes w64 t ≡ window_of true first (first + 8) f 0 8
+  unfolding window_of window_byte
+  big_eight =
+      let at : (d : ℕ) → d < 8 → first + 8 - 1 - d ≡ first + (7 - d) = λ d h. omega arith in
+      rw (eighth 0 (omega arith), eighth 1 (omega arith), eighth 2 (omega arith), eighth 3 (omega arith))
+      (rw (eighth 4 (omega arith), eighth 5 (omega arith), eighth 6 (omega arith), eighth 7 (omega arith), at 0 (omega arith), at 1 (omega arith), at 2 (omega arith), at 3 (omega arith))
+      (rw (at 4 (omega arith), at 5 (omega arith), at 6 (omega arith), at 7 (omega arith)) (omega arith)))
 
 -- ---- a frame bit as a bit of the number
 

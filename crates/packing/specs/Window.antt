@@ -46,13 +46,3 @@ with_replaced big first past d n m y f = with_window big first past d n (replace
 unfoldable pub low_bit : Bool → ℕ → ℕ → ℕ → ℕ → ℕ
 low_bit false first past start end = start - first * 8
 low_bit true first past start end = past * 8 - end
-
--- the lowest n bytes of x, in the other order, behind r
-unfoldable pub swapped : ℕ → ℕ → ℕ → ℕ
-swapped zero x r = r
-swapped (suc n) x r = swapped n (x / 256) (r * 256 + x % 256)
-
--- eight bytes that were read in little order, or are to be written in it, as a number in the frame's order
-unfoldable pub in_order : Bool → ℕ → ℕ
-in_order false x = x
-in_order true x = swapped 8 x 0

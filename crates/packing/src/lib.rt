@@ -1,36 +1,89 @@
 // Packing and unpacking of a message's bits, the status bit among them, and the values that their patterns stand for.
 #![tactic(auto)]
 
-ghost use Rattle.std.specs.Prelude.{◌≡◌, false, ◌+◌, ◌-◌, ◌*◌, ◌/◌, ◌%◌, ◌<◌, ◌≤◌, ◌^◌, length, take};
+ghost use Rattle.std.specs.Prelude.{◌≡◌, ◌+◌, ◌-◌, ◌*◌, ◌/◌, ◌%◌, ◌<◌, ◌≤◌, ◌^◌, length, take};
 ghost use Rattle.std.specs.Int.Bits.{bit_and};
-ghost use Rattle.std.specs.Int.Signed.{mag};
 ghost use Rattle.whole.specs.Whole.{word};
 ghost use Rattle.packing.specs.Places.{places, in_frame, places_in, packed, unpacked};
 ghost use Rattle.packing.specs.Values.{in_range, value_of, pattern_of, extended};
-ghost use Rattle.packing.specs.Window.{Window, Around, window_byte, window_of, replaced, with_replaced, low_bit, swapped, in_order};
+ghost use Rattle.packing.specs.Window.{Window, Around, window_byte, window_of, replaced, with_replaced, low_bit};
 
-// ---- a field's bytes, first .. past, as one number
+// ---- a field's bytes as one number
 
-// Byte d, counted from the one with the message's lowest bits.
-fn window_byte(big: bool, first: usize, past: usize, d: usize) -> usize
-    requires { (first + d < past) × (past ≤ 36) }
-    ensures { (result ≡ window_byte big first past d) × (result < past) }
-{
-    if big { past - 1 - d } else { first + d }
+// Bytes first .. past of a frame, in its order.
+#[derive(Clone, Copy)]
+struct Stretch {
+    big: bool,
+    first: usize,
+    past: usize,
 }
 
-// The byte of the highest bits is read first.
-fn window(frame: &[u8], big: bool, first: usize, past: usize) -> u64
-    requires { Window (length frame.now) first past }
-    ensures { result ≡ window_of big first past frame.now 0 (past - first) }
-{
-    let mut x: u64 = 0;
-    let mut d = past - first;
-    while 0 < d {
-        d -= 1;
-        x = x * 256 + frame[window_byte(big, first, past, d)] as u64;
+impl Stretch {
+    // Byte d, counted from the one with the message's lowest bits.
+    fn byte(self, d: usize) -> usize
+        requires { (self.first + d < self.past) × (self.past ≤ 36) }
+        ensures { (result ≡ window_byte self.big self.first self.past d) × (result < self.past) }
+    {
+        if self.big {
+            self.past - 1 - d
+        } else {
+            self.first + d
+        }
     }
-    x
+
+    // The byte of the highest bits is read first.
+    fn read(self, frame: &[u8]) -> u64
+        requires { Window (length frame.now) self.first self.past }
+        ensures { result ≡ window_of self.big self.first self.past frame.now 0 (self.past - self.first) }
+    {
+        let mut x: u64 = 0;
+        for d in (0..self.past - self.first).rev() {
+            x = x * 256 + frame[self.byte(d)] as u64;
+        }
+        x
+    }
+
+    // Eight bytes at once: one load, and in big order one instruction more.
+    fn read_eight(self, frame: &[u8]) -> u64
+        requires { (self.past ≡ self.first + 8) × (self.past ≤ length frame.now) }
+        ensures { result ≡ window_of self.big self.first self.past frame.now 0 8 }
+    {
+        let bytes = *frame[self.first..self.past].as_array::<8>().unwrap();
+        if self.big {
+            u64::from_be_bytes(bytes)
+        } else {
+            u64::from_le_bytes(bytes)
+        }
+    }
+
+    // The mask's bits replaced in all the bytes. Not a `for`: a compiler unrolls a counted loop, and it takes longer, since most fields take one turn or two.
+    fn put(self, frame: &mut [u8], mask: u64, bits: u64)
+        requires { Window (length frame.old) self.first self.past × (mask < 2 ^ ((self.past - self.first) * 8)) × (bit_and bits mask ≡ bits) }
+        ensures { frame.new ≡ with_replaced self.big self.first self.past 0 (self.past - self.first) mask bits frame.old }
+    {
+        let mut m = mask;
+        let mut y = bits;
+        let mut d = 0;
+        while 0 < m {
+            let i = self.byte(d);
+            frame[i] = replaced_byte(frame[i], (m % 256) as u8, (y % 256) as u8);
+            m /= 256;
+            y /= 256;
+            d += 1;
+        }
+    }
+
+    // The number's bit that is the lowest of the field.
+    fn low_bit(self, start: usize, end: usize) -> usize
+        requires { Around self.first self.past start end }
+        ensures { (result ≡ low_bit self.big self.first self.past start end) × (result < 64) }
+    {
+        if self.big {
+            self.past * 8 - end
+        } else {
+            start - self.first * 8
+        }
+    }
 }
 
 // The old bits of the mask are taken out of a byte and the new ones put in, so that the other bits stay.
@@ -41,67 +94,16 @@ fn replaced_byte(x: u8, m: u8, y: u8) -> u8
     x - (x & m) + y
 }
 
-// The same in all the bytes. The loop is not counted: a compiler would unroll it, though most fields take one turn or two.
-fn put_bits(frame: &mut [u8], big: bool, first: usize, past: usize, mask: u64, bits: u64)
-    requires { Window (length frame.old) first past × (mask < 2 ^ ((past - first) * 8)) × (bit_and bits mask ≡ bits) }
-    ensures { frame.new ≡ with_replaced big first past 0 (past - first) mask bits frame.old }
+// The lowest bits of a number from bit k on.
+fn cut(x: u64, k: usize, width: u8) -> u32
+    requires { (k < 64) × (width ≤ 32) }
+    ensures { result ≡ x / 2 ^ k % 2 ^ width }
 {
-    let mut m = mask;
-    let mut y = bits;
-    let mut d = 0;
-    while 0 < m {
-        let i = window_byte(big, first, past, d);
-        frame[i] = replaced_byte(frame[i], (m % 256) as u8, (y % 256) as u8);
-        m = m / 256;
-        y = y / 256;
-        d += 1;
-    }
+    let m = 1u64 << width as u64;
+    ((x >> k) % m) as u32
 }
 
-// Eight bytes, each put at its own place from the lowest on, so that a compiler makes one load of them.
-fn eight_bytes(frame: &[u8], at: usize) -> u64
-    requires { (at + 8 ≤ length frame.now) × (at ≤ 36) }
-    ensures { result ≡ window_of false at (at + 8) frame.now 0 8 }
-{
-    let mut x: u64 = 0;
-    for d in 0..8 {
-        x += (frame[at + d] as u64) << (d * 8);
-    }
-    x
-}
-
-// Eight bytes in the other order: one instruction.
-fn swap(x: u64) -> u64
-    ensures { result ≡ swapped 8 x 0 }
-{
-    let mut y = x;
-    let mut r: u64 = 0;
-    for d in 0..8u64 {
-        r = r * 256 + y % 256;
-        y = y / 256;
-    }
-    r
-}
-
-fn in_order(big: bool, x: u64) -> u64
-    ensures { result ≡ in_order big x }
-{
-    if big { swap(x) } else { x }
-}
-
-// The number's bit that is the lowest of the field.
-fn low_bit(big: bool, first: usize, past: usize, start: usize, end: usize) -> usize
-    requires { Around first past start end }
-    ensures { (result ≡ low_bit big first past start end) × (result < 64) }
-{
-    if big {
-        past * 8 - end
-    } else {
-        start - first * 8
-    }
-}
-
-// The same where the bytes are the field's own, so written that a compiler sees that it is below 8.
+// The same bit where the bytes are the field's own, so written that a compiler sees that it is below 8.
 fn low_bit_in_byte(big: bool, start: usize, end: usize) -> usize
     requires { start ≤ end }
     ensures { (result ≡ low_bit big (start / 8) ((end + 7) / 8) start end) × (result < 8) × (result + (end - start) ≤ ((end + 7) / 8 - start / 8) * 8) }
@@ -111,73 +113,102 @@ fn low_bit_in_byte(big: bool, start: usize, end: usize) -> usize
 
 // ---- packing
 
-fn in_frame(bytes: usize, start: u8, width: u8) -> bool
-    ensures { result ≡ in_frame bytes start width }
-{
-    let end = start as usize + width as usize;
-    (width <= 32) & ((end + 7) / 8 <= bytes)
+// A message's bits in a frame: width of them from start, in the frame's order.
+#[derive(Clone, Copy)]
+struct Field {
+    big: bool,
+    start: u8,
+    width: u8,
 }
 
-fn pack_bits(frame: &mut [u8], big: bool, start: usize, width: usize, pattern: u32)
-    requires { (start + width ≤ length frame.old * 8) × (start + width ≤ 287) × (width ≤ 32) }
-    ensures { frame.new ≡ packed (places big start width) pattern frame.old }
-{
-    let first = start / 8;
-    let end = start + width;
-    let past = (end + 7) / 8;
-    let k = low_bit_in_byte(big, start, end);
-    let m = (1u64 << width) - 1;
-    put_bits(frame, big, first, past, m << k, (pattern as u64 & m) << k);
+impl Field {
+    fn end(self) -> usize
+        ensures { result ≡ self.start + self.width }
+    {
+        self.start as usize + self.width as usize
+    }
+
+    // Whether it lies in a frame of that many bytes.
+    fn is_in(self, bytes: usize) -> bool
+        ensures { result ≡ in_frame bytes self.start self.width }
+    {
+        (self.width <= 32) & ((self.end() + 7) / 8 <= bytes)
+    }
+
+    fn pack(self, frame: &mut [u8], pattern: u32)
+        requires { (self.start + self.width ≤ length frame.old * 8) × (self.width ≤ 32) }
+        ensures { frame.new ≡ packed (places self.big self.start self.width) pattern frame.old }
+    {
+        let start = self.start as usize;
+        let end = self.end();
+        let bytes = Stretch {
+            big: self.big,
+            first: start / 8,
+            past: (end + 7) / 8,
+        };
+        let k = low_bit_in_byte(self.big, start, end);
+        let m = (1u64 << self.width as u64) - 1;
+        bytes.put(frame, m << k, (pattern as u64 & m) << k);
+    }
+
+    fn unpack(self, frame: &[u8]) -> u32
+        requires { (self.start + self.width ≤ length frame.now * 8) × (self.width ≤ 32) }
+        ensures { result ≡ unpacked (places self.big self.start self.width) frame.now }
+    {
+        let start = self.start as usize;
+        let first = start / 8;
+        let bytes = Stretch {
+            big: self.big,
+            first,
+            past: first + (start % 8 + self.width as usize + 7) / 8,
+        };
+        cut(
+            bytes.read(frame),
+            bytes.low_bit(start, self.end()),
+            self.width,
+        )
+    }
+
+    fn unpack_wide(self, room: &[u8]) -> u32
+        requires { (self.start + self.width + 64 ≤ length room.now * 8) × (0 < self.width) × (self.width ≤ 32) }
+        ensures { result ≡ unpacked (places self.big self.start self.width) room.now }
+    {
+        let start = self.start as usize;
+        let bytes = Stretch {
+            big: self.big,
+            first: start / 8,
+            past: start / 8 + 8,
+        };
+        cut(
+            bytes.read_eight(room),
+            bytes.low_bit(start, self.end()),
+            self.width,
+        )
+    }
 }
 
-fn cut(x: u64, k: usize, width: usize) -> u32
-    requires { (k < 64) × (width ≤ 32) }
-    ensures { result ≡ x / 2 ^ k % 2 ^ width }
-{
-    let m = 1u64 << width;
-    ((x >> k) % m) as u32
-}
-
-fn unpack_bits(frame: &[u8], big: bool, start: usize, width: usize) -> u32
-    requires { (start + width ≤ length frame.now * 8) × (start + width ≤ 287) × (width ≤ 32) }
-    ensures { result ≡ unpacked (places big start width) frame.now }
-{
-    let first = start / 8;
-    let past = first + (start % 8 + width + 7) / 8;
-    let x = window(frame, big, first, past);
-    cut(x, low_bit(big, first, past, start, start + width), width)
-}
-
-fn unpack_wide(room: &[u8], big: bool, start: usize, width: usize) -> u32
-    requires { (start + width + 64 ≤ length room.now * 8) × (start ≤ 255) × (0 < width) × (width ≤ 32) }
-    ensures { result ≡ unpacked (places big start width) room.now }
-{
-    let first = start / 8;
-    let x = in_order(big, eight_bytes(room, first));
-    cut(
-        x,
-        low_bit(big, first, first + 8, start, start + width),
-        width,
-    )
-}
+// The public functions keep their parameters, and take no `Field` and no type of a value: docs/PROMISES.md names them.
 
 // A pattern's lowest bits into the field's places. A status bit is a field of width 1. A field that does not lie in the frame changes nothing.
 pub fn pack(frame: &mut [u8], big: bool, start: u8, width: u8, pattern: u32)
     ensures { frame.new ≡ packed (places_in (length frame.old) big start width) pattern frame.old }
 {
-    if in_frame(frame.len(), start, width) {
-        pack_bits(frame, big, start as usize, width as usize, pattern);
+    let field = Field { big, start, width };
+    if field.is_in(frame.len()) {
+        field.pack(frame, pattern);
     }
 }
 
-// The pattern at the field's places, 0 for a field that does not lie in the frame.
+// The pattern at the field's places, 0 for a field that does not lie in the frame. 0 and no Option: `unpacked (places_in ..)` has it.
 pub fn unpack(frame: &[u8], big: bool, start: u8, width: u8) -> u32
     ensures { result ≡ unpacked (places_in (length frame.now) big start width) frame.now }
 {
-    if in_frame(frame.len(), start, width) {
-        return unpack_bits(frame, big, start as usize, width as usize);
+    let field = Field { big, start, width };
+    if field.is_in(frame.len()) {
+        field.unpack(frame)
+    } else {
+        0
     }
-    0
 }
 
 // The same of the first n bytes of a room that goes on behind them, so that eight bytes can be read wherever the field lies.
@@ -185,12 +216,12 @@ pub fn unpack_in(room: &[u8], n: usize, big: bool, start: u8, width: u8) -> u32
     requires { n + 8 ≤ length room.now }
     ensures { result ≡ unpacked (places_in n big start width) (take n room.now) }
 {
-    if 0 < width {
-        if in_frame(n, start, width) {
-            return unpack_wide(room, big, start as usize, width as usize);
-        }
+    let field = Field { big, start, width };
+    if 0 < width && field.is_in(n) {
+        field.unpack_wide(room)
+    } else {
+        0
     }
-    0
 }
 
 // ---- values
@@ -207,7 +238,7 @@ fn largest(width: u8) -> u32
 pub fn in_range(value: i64, width: u8, signed: bool) -> bool
     ensures { result ≡ in_range signed width value }
 {
-    if !((1 <= width) & (width <= 32)) {
+    if !(1..=32).contains(&width) {
         return false;
     }
     let top = largest(width);
@@ -235,30 +266,18 @@ pub fn value_of(pattern: u32, width: u8, signed: bool) -> i64
     pattern as i64 - (top as i64 + 1)
 }
 
-// A value's distance from zero, or of a negative one from -1.
-fn magnitude(value: i64) -> u64
-    ensures { result ≡ mag value }
-{
-    if value < 0 {
-        !value as u64
-    } else {
-        value as u64
-    }
-}
-
-// The 32-bit pattern of a value.
+// The 32-bit pattern of a value: its lowest bits.
 pub fn pattern_of(value: i64) -> u32
     ensures { result ≡ pattern_of 32 value }
 {
-    let m = (magnitude(value) % 4294967296) as u32;
-    if value < 0 { 4294967295 - m } else { m }
+    (value & 0xffff_ffff) as u32
 }
 
-// The 32-bit pattern of four bytes, the lowest first.
+// The 32-bit pattern of four bytes, the lowest first. Not `from_le_bytes` at each caller: docs/PROMISES.md names it.
 pub fn word_of(a: u8, b: u8, c: u8, d: u8) -> u32
     ensures { result ≡ word a b c d }
 {
-    a as u32 + 256 * (b as u32 + 256 * (c as u32 + 256 * d as u32))
+    u32::from_le_bytes([a, b, c, d])
 }
 
 // Whether a 32-bit pattern is extended from the width: exactly if its value is one of the width's.

@@ -5,213 +5,167 @@
 // The file script.txt beside this folder has the calls in words, with their answers.
 #![tactic(auto)]
 
-ghost use Rattle.std.specs.Prelude.{◌≡◌, ◌+◌, ◌≤◌, length};
-ghost use Rattle.store.specs.Node.{node_size};
+use std::io::{self, Cursor, Read};
+use store::Node;
 
-use std::io::Read;
+type Step = [u8; 40];
 
-// A write that fails is passed over, and the calls go on.
-fn say(rt: &impl Print, text: &[u8]) {
-    let _ = rt.write_all(text);
+// A call with what its step brings. A length above 32 has no data, and no buffer.
+enum Call<'a> {
+    Send {
+        message: u64,
+        value: i64,
+    },
+    Invalidate {
+        message: u64,
+    },
+    Assemble {
+        frame: u64,
+        size: usize,
+    },
+    Consumed {
+        frame: u64,
+    },
+    Flag {
+        message: u64,
+    },
+    Deliver {
+        frame: u64,
+        valid: bool,
+        bytes: Option<&'a [u8]>,
+    },
+    Close,
+    Receive {
+        message: u64,
+    },
 }
 
-fn say_number(rt: &impl Print, n: u64) {
-    let _ = print!(rt; "{n}");
-}
+impl<'a> Call<'a> {
+    // The call of a step, if its number is one.
+    fn of(step: &'a Step) -> Option<Call<'a>> {
+        let number = u64::from(step[2]);
+        let size = usize::from(step[3]);
+        let value = i32::from_le_bytes([step[8], step[9], step[10], step[11]]);
+        let call = match step[1] {
+            1 => Call::Send {
+                message: number,
+                value: i64::from(value),
+            },
+            2 => Call::Invalidate { message: number },
+            3 => Call::Assemble {
+                frame: number,
+                size,
+            },
+            4 => Call::Consumed { frame: number },
+            5 => Call::Flag { message: number },
+            6 => Call::Deliver {
+                frame: number,
+                valid: step[4] != 0,
+                bytes: step[8..].get(..size),
+            },
+            7 => Call::Close,
+            8 => Call::Receive { message: number },
+            _ => return None,
+        };
+        Some(call)
+    }
 
-// A value of at most 32 bits.
-fn say_value(rt: &impl Print, value: i64) {
-    let pattern = packing::pattern_of(value) as u64;
-    if value < 0 {
-        say(rt, b" -");
-        say_number(rt, 4294967296 - pattern);
-    } else {
-        say(rt, b" ");
-        say_number(rt, pattern);
+    // The call is made before it is printed, so that a write that fails keeps none back.
+    fn play(self, rt: &impl Print, node: &mut Node) -> io::Result<()> {
+        match self {
+            Call::Send { message, value } => {
+                let answer = node::send(node, message, value);
+                print!(rt; "send {message}: {answer} {value}")
+            }
+            Call::Invalidate { message } => {
+                let answer = node::invalidate(node, message);
+                print!(rt; "invalidate {message}: {answer}")
+            }
+            Call::Assemble { frame, size } => play_assemble(rt, node, frame, size),
+            Call::Consumed { frame } => {
+                let answer = node::consumed(node, frame);
+                print!(rt; "consumed {frame}: {answer}")
+            }
+            Call::Flag { message } => {
+                let mut flag = 9u8;
+                let answer = node::read_flag(node, message, &mut flag);
+                print!(rt; "flag {message}: {answer} {flag}")
+            }
+            Call::Deliver {
+                frame,
+                valid,
+                bytes,
+            } => {
+                let Some(bytes) = bytes else {
+                    return print!(rt; "deliver {frame}: ");
+                };
+                let answer = node::deliver(node, frame, valid, bytes);
+                print!(rt; "deliver {frame}: {answer}")
+            }
+            Call::Close => {
+                let answer = node::close(node);
+                print!(rt; "close: {answer}")
+            }
+            Call::Receive { message } => {
+                let mut value = 99i64;
+                let answer = node::receive(node, message, &mut value);
+                print!(rt; "receive {message}: {answer} {value}")
+            }
+        }
     }
 }
 
-fn say_call(rt: &impl Print, name: &[u8], number: u64) {
-    say(rt, name);
-    say_number(rt, number);
-    say(rt, b": ");
-}
-
-fn say_bytes(rt: &impl Print, bytes: &[u8]) {
-    for k in 0..bytes.len() {
-        say(rt, b" ");
-        say_number(rt, wide(bytes[k]));
+fn play_assemble(rt: &impl Print, node: &mut Node, frame: u64, size: usize) -> io::Result<()> {
+    let mut memory = [255u8; 32];
+    let Some(buffer) = memory.get_mut(..size) else {
+        return print!(rt; "assemble {frame}: ");
+    };
+    let answer = node::assemble(node, frame, buffer);
+    let _ = print!(rt; "assemble {frame}: {answer}");
+    for byte in buffer {
+        let _ = print!(rt; " {byte}");
     }
-}
-
-fn wide(x: u8) -> u64
-    ensures { result ≤ 255 }
-{
-    x as u64
-}
-
-// The value of a step, a signed word.
-fn value_at(step: &[u8]) -> i64
-    requires { length step.now ≡ 40 }
-{
-    let pattern = packing::word_of(step[8], step[9], step[10], step[11]);
-    packing::value_of(pattern, 32, true)
-}
-
-fn assemble_into(rt: &impl Print, node: &mut [u8], frame: u64, buffer: &mut [u8])
-    requires { length node.old ≡ node_size }
-{
-    let answer = node::assemble(node, frame, &mut *buffer);
-    say_number(rt, answer as u64);
-    say_bytes(rt, buffer);
-}
-
-fn play_assemble(rt: &impl Print, node: &mut [u8], frame: u64, size: usize)
-    requires { length node.old ≡ node_size }
-{
-    let mut buffer = [255u8; 32];
-    if size <= 32 {
-        assemble_into(rt, node, frame, &mut buffer[..size]);
-    }
-}
-
-fn play_flag(rt: &impl Print, node: &[u8], message: u64)
-    requires { length node.now ≡ node_size }
-{
-    let mut flag = 9u8;
-    let answer = node::read_flag(node, message, &mut flag);
-    say_number(rt, answer as u64);
-    say(rt, b" ");
-    say_number(rt, flag as u64);
-}
-
-fn play_deliver(rt: &impl Print, node: &mut [u8], frame: u64, step: &[u8])
-    requires { (length step.now ≡ 40) × (length node.old ≡ node_size) }
-{
-    let size = wide(step[3]) as usize;
-    if 32 < size {
-        return;
-    }
-    let end = 8 + size;
-    let answer = node::deliver(node, frame, step[4] != 0, &step[8..end]);
-    say_number(rt, answer as u64);
-}
-
-fn play_receive(rt: &impl Print, node: &[u8], message: u64)
-    requires { length node.now ≡ node_size }
-{
-    let mut value = 99i64;
-    let answer = node::receive(node, message, &mut value);
-    say_number(rt, answer as u64);
-    say_value(rt, value);
-}
-
-// The call of a step on its node.
-fn play_call(rt: &impl Print, node: &mut [u8], step: &[u8])
-    requires { (length step.now ≡ 40) × (length node.old ≡ node_size) }
-{
-    let number = wide(step[2]);
-    let call = step[1];
-    match call {
-        1 => {
-            say_call(rt, b"send ", number);
-            let value = value_at(step);
-            say_number(rt, node::send(node, number, value) as u64);
-            say_value(rt, value);
-        }
-        2 => {
-            say_call(rt, b"invalidate ", number);
-            say_number(rt, node::invalidate(node, number) as u64);
-        }
-        3 => {
-            say_call(rt, b"assemble ", number);
-            play_assemble(rt, node, number, wide(step[3]) as usize);
-        }
-        4 => {
-            say_call(rt, b"consumed ", number);
-            say_number(rt, node::consumed(node, number) as u64);
-        }
-        5 => {
-            say_call(rt, b"flag ", number);
-            play_flag(rt, node, number);
-        }
-        6 => {
-            say_call(rt, b"deliver ", number);
-            play_deliver(rt, node, number, step);
-        }
-        7 => {
-            say(rt, b"close: ");
-            say_number(rt, node::close(node) as u64);
-        }
-        8 => {
-            say_call(rt, b"receive ", number);
-            play_receive(rt, node, number);
-        }
-        _ => {}
-    }
+    Ok(())
 }
 
 // One step on its node: a line.
-fn play_step(rt: &impl Print, node: &mut [u8], step: &[u8])
-    requires { (length step.now ≡ 40) × (length node.old ≡ node_size) }
-{
-    play_call(rt, &mut *node, step);
-    say(rt, b"\n");
-}
-
-fn play_load(rt: &impl Print, node: &mut [u8], file: &[u8])
-    requires { length node.old ≡ node_size }
-{
-    say(rt, b"load: ");
-    say_number(rt, node::load(node, file) as u64);
-    say(rt, b"\n");
-}
-
-fn play_all(rt: &impl Print, input: &[u8], from: usize, a: &mut [u8], b: &mut [u8])
-    requires { (from ≤ 8192) × (length input.now ≤ 8192) × (length a.old ≡ node_size) × (length b.old ≡ node_size) }
-{
-    let mut at = from;
-    while at + 40 <= input.len() {
-        let end = at + 40;
-        let step = &input[at..end];
-        if step[0] == 0 {
-            say(rt, b"a ");
-            play_step(rt, &mut *a, step);
-        } else {
-            say(rt, b"b ");
-            play_step(rt, &mut *b, step);
-        }
-        at = end;
+fn play_step(rt: &impl Print, name: char, node: &mut Node, step: &Step) -> io::Result<()> {
+    let _ = print!(rt; "{name} ");
+    if let Some(call) = Call::of(step) {
+        let _ = call.play(rt, node);
     }
+    println!(rt)
 }
 
-// Reads until the buffer is full, the input ends or a read fails.
-fn read_full(from: &mut impl Read, input: &mut [u8]) -> usize
-    ensures { result ≤ length input.new }
-{
-    let mut n = 0;
-    while n < input.len() {
-        let Ok(more) = from.read(&mut input[n..]) else {
-            break;
-        };
-        if more == 0 {
-            break;
-        }
-        n += more;
-    }
-    n
+fn play_load(rt: &impl Print, node: &mut Node, file: &[u8]) -> io::Result<()> {
+    let answer = node::load(node, file);
+    println!(rt; "load: {answer}")
 }
 
+// A write that fails is passed over, and the calls go on.
 fn main(rt: HostRuntime) {
+    // Not cut to what was read: zeros beyond a short input are read as records.
     let mut input = [0u8; 8192];
-    let n = read_full(&mut rt.stdin(), &mut input);
-    let mut a = [0u8; 2851];
-    let mut b = [0u8; 2851];
-    let middle = 2 + 24 * (wide(input[0]) as usize % 100);
-    let end = middle + 24 * (wide(input[1]) as usize % 100);
-    play_load(&rt, &mut a, &input[2..middle]);
-    play_load(&rt, &mut b, &input[middle..end]);
-    if n <= 8192 {
-        play_all(&rt, &input[..n], end, &mut a, &mut b);
+    let mut read = Cursor::new(&mut input[..]);
+    // A read that fails ends the input.
+    let _ = io::copy(&mut rt.stdin().take(8192), &mut read);
+    let n = read.position() as usize;
+    let mut a: Node = [0; 2851];
+    let mut b: Node = [0; 2851];
+    let middle = 2 + 24 * (usize::from(input[0]) % 100);
+    let end = middle + 24 * (usize::from(input[1]) % 100);
+    let _ = play_load(&rt, &mut a, &input[2..middle]);
+    let _ = play_load(&rt, &mut b, &input[middle..end]);
+    let Some(steps) = input.get(end..n) else {
+        return;
+    };
+    let (steps, _) = steps.as_chunks();
+    for step in steps {
+        let (name, node) = if step[0] == 0 {
+            ('a', &mut a)
+        } else {
+            ('b', &mut b)
+        };
+        let _ = play_step(&rt, name, node, step);
     }
 }

@@ -9,9 +9,8 @@ use Rattle.record.specs.Numbers.{any_below, least_below}
 use Rattle.record.specs.Records.{record_bytes}
 use Rattle.record.proofs.Searches.{any_same, least_below_lem, least_same}
 use Rattle.record.proofs.Own.{own_byte, own_frame, own_message, own_field}
-use Rattle.ranges.specs.Ranges.{is_wrong, finding_at, wrong_at, fault_at, lowest_fault, range_fault}
-use Rattle.ranges.specs.declared.Finding.{Finding}
-use Rattle.ranges.specs.declared.RangeFault.{RangeFault}
+use Rattle.ranges.specs.Ranges.{Finding, is_wrong, finding_at, wrong_at, fault_at, lowest_fault, range_fault}
+use Rattle.std.specs.Prelude.{Ok}
 
 -- the lowest fault depends on what is found at the 24 bytes
 same_lowest : (p q : ℕ → Finding) → ((k : ℕ) → k < 24 → p k ≡ q k) → lowest_fault p ≡ lowest_fault q
@@ -23,7 +22,7 @@ same_lowest p q h =
     go :
         (b : Bool) → any_below (wrong_at q) 24 ≡ b
         → let k = least_below (wrong_at q) 24 in
-        cond b (fault_at k (p k)) RangeFault.None ≡ cond b (fault_at k (q k)) RangeFault.None
+        cond b (fault_at k (p k)) (Ok tt) ≡ cond b (fault_at k (q k)) (Ok tt)
     go true e = rw (h (least_below (wrong_at q) 24) (least_below_lem (wrong_at q) 24 e).below) refl
     go false e = refl
 

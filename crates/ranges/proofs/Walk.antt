@@ -8,11 +8,12 @@ use Prim.Native.Nat.{ℕ, suc, ◌+◌, ◌-◌, ◌<◌, ◌≤◌}
 use native.Mathlib.Nat.{add-zero, zero-add}
 use native.Mathlib.Decide.{ℕ_discrete, dec_lt}
 use native.Mathlib.Omega.{arith}
-use lib.ListN.{length, drop, get_or}
+use lib.ListN.{length, get_or}
 use lib.Seq.{get_or-set_other}
 use borrow.Author.Tests.{le-leb, lt-leb, ne_eqb}
 use Rattle.record.specs.Records.{byte_at, frame_at, message_at, field_at}
 use Rattle.ranges.specs.Ranges.{
+  Finding,
   wrong_if,
   frame_findings,
   message_findings,
@@ -31,37 +32,11 @@ use Rattle.ranges.specs.Ranges.{
 }
 use Rattle.record.specs.declared.Message.{Message}
 use Rattle.ranges.specs.declared.Fault.{Fault}
-use Rattle.ranges.specs.declared.Finding.{Finding}
-use Rattle.ranges.specs.declared.RangeFault.{RangeFault}
+use Rattle.std.specs.Prelude.{Ok, Err}
 use Rattle.record.proofs.Tests.{to_last}
 use Rattle.ranges.proofs.Lowest.{if_clear, lowest_at}
 
 -- ---- a list of what is found
-
--- a byte that is right is passed
-pub pass : (k : ℕ) (f : Finding) (l : List Finding) (x : RangeFault) → f ≡ Finding.Right → x ≡ first_wrong (suc k) l → x ≡ first_wrong k (f ∷ l)
-unfolding first_wrong
-pass k f l x right later = rw right later
-
--- three bytes of which nothing is said
-pub pass_three :
-    (k : ℕ) (l : List Finding) (x : RangeFault)
-    → x ≡ first_wrong (suc (suc (suc k))) l → x ≡ first_wrong k (Finding.Right ∷ Finding.Right ∷ Finding.Right ∷ l)
-unfolding first_wrong
-pass_three k l x later = later
-
--- one that is wrong ends the walk; after the last there is none
-pub stop : (k : ℕ) (f : Finding) (l : List Finding) (fault : Fault) → f ≡ Finding.Wrong fault → RangeFault.At fault k ≡ first_wrong k (f ∷ l)
-unfolding first_wrong
-stop k f l fault wrong = rw wrong refl
-
-pub ended : (k : ℕ) → RangeFault.None ≡ first_wrong k []
-unfolding first_wrong
-ended k = refl
-
--- the bytes from a on are right before byte k: the walk goes on there
-abbrev pub Past : ℕ → ℕ → List Finding → Type 0
-Past a k l = (x : RangeFault) → x ≡ first_wrong k (drop k l) → x ≡ first_wrong a (drop a l)
 
 -- of the bytes that are not named, byte 7 alone stands in the list of what is found in a message
 pub byte_seven :
@@ -83,7 +58,7 @@ module _ (s : List ℕ) (i : ℕ) where
   abbrev reserved : ℕ → Finding
   reserved k = wrong_if (nonzero_at s i k) Fault.Reserved
 
-  pub before_right : (a k : ℕ) → k < a → reserved_from s i a k ≡ Finding.Right
+  pub before_right : (a k : ℕ) → k < a → reserved_from s i a k ≡ Ok tt
   unfolding reserved_from
   before_right a k l = rw (lt-leb a k l) (if_clear false Fault.Reserved refl)
 
@@ -93,7 +68,7 @@ module _ (s : List ℕ) (i : ℕ) where
 
   -- where p finds nothing before byte a, then what l says, and after its end the bytes that are not named
   walked :
-      (p : ℕ → Finding) (a : ℕ) (l : List Finding) → ((k : ℕ) → k < a → p k ≡ Finding.Right)
+      (p : ℕ → Finding) (a : ℕ) (l : List Finding) → ((k : ℕ) → k < a → p k ≡ Ok tt)
       → ((k : ℕ) → p (a + k) ≡ get_or l k (reserved (a + k))) → a + length l ≤ 24
       → or_else (first_wrong a l) (lowest_fault (reserved_from s i (a + length l))) ≡ lowest_fault p
   unfolding first_wrong
@@ -104,11 +79,11 @@ module _ (s : List ℕ) (i : ℕ) where
       same k (no n) =
           let e : a + (k - a) ≡ k = omega arith in
           from_on (a + 0) k (omega arith) ∙ sym (rw e at (there (k - a)))
-  walked p a (Finding.Right ∷ l) before there few =
+  walked p a (Ok u ∷ l) before there few =
       let next : (k : ℕ) → a + suc k ≡ suc a + k = λ k. omega arith in
       rw (next (length l))
-      (walked p (suc a) l (to_last (λ k. p k ≡ Finding.Right) a before (rw add-zero at (there 0))) (λ k. rw (next k) at (there (suc k))) (omega arith))
-  walked p a (Finding.Wrong fault ∷ l) before there few =
+      (walked p (suc a) l (to_last (λ k. p k ≡ Ok tt) a before (rw add-zero at (there 0))) (λ k. rw (next k) at (there (suc k))) (omega arith))
+  walked p a (Err fault ∷ l) before there few =
       sym ((lowest_at p fault a).1 (record { byte = omega arith; wrong = rw add-zero at (there 0); lowest = before }))
 
   -- the record, where l lists what is found at the bytes that are named

@@ -10,8 +10,10 @@ use native.Mathlib.Omega.{arith}
 use lib.Dec.{eqb, ltb}
 use lib.ListN.{get_or}
 use borrow.Author.Tests.{ne_eqb, eqb-true, ltb-true, lt-leb, le-leb}
+use Rattle.std.specs.Prelude.{Ok, Err}
 use Rattle.record.specs.Records.{byte_at, is_message, frame_at, message_at, field_at}
 use Rattle.ranges.specs.Ranges.{
+  Finding,
   wrong_if,
   uses_x1,
   uses_x2,
@@ -34,13 +36,12 @@ use Rattle.record.specs.declared.Frame.{Frame}
 use Rattle.record.specs.declared.Message.{Message}
 use Rattle.record.specs.declared.Field.{Field}
 use Rattle.ranges.specs.declared.Fault.{Fault}
-use Rattle.ranges.specs.declared.Finding.{Finding}
 
 -- ---- what is said of a byte
 
 -- of byte k, where f is found; `other` says that the byte is not zero, and `message` that the record is a message, which is g
 data Said (message : Bool) (g : Message) (other : Bool) (k : ℕ) (f : Finding) : Type 0 where
-  right : f ≡ Finding.Right → named message k ≡ true → Said message g other k f
+  right : f ≡ Ok tt → named message k ≡ true → Said message g other k f
   range : (t : Bool) → f ≡ wrong_if t Fault.Range → named message k ≡ true → k < 8 → Said message g other k f
   reserved : f ≡ wrong_if other Fault.Reserved → named message k ≡ false → Said message g other k f
   word : (used : Bool) (x : ℕ) → f ≡ word_finding g used x → named message k ≡ true → message ≡ true → WordAt g k used x → Said message g other k f
@@ -51,7 +52,7 @@ four a b c d later = (a, (b, (c, (d, later))))
 
 -- the entries of the lists
 module _ {message : Bool} {g : Message} {other : Bool} where
-  right_at : (k : ℕ) → named message k ≡ true → Said message g other k Finding.Right
+  right_at : (k : ℕ) → named message k ≡ true → Said message g other k (Ok tt)
   right_at k = Said.right refl
 
   range_at : (t : Bool) (k : ℕ) → named message k ≡ true → ltb k 8 ≡ true → Said message g other k (wrong_if t Fault.Range)
@@ -105,22 +106,22 @@ said s i k = go _ _ refl refl
 
 -- the ways told apart by a number, and right from wrong
 abbrev tag : Finding → ℕ
-tag Finding.Right = 0
-tag (Finding.Wrong Fault.Range) = 1
-tag (Finding.Wrong Fault.Reserved) = 2
-tag (Finding.Wrong Fault.Unused) = 3
-tag (Finding.Wrong Fault.Width) = 4
+tag (Ok u) = 0
+tag (Err Fault.Range) = 1
+tag (Err Fault.Reserved) = 2
+tag (Err Fault.Unused) = 3
+tag (Err Fault.Width) = 4
 
 -- what a test finds is right, or its own fault where it holds
-found_wrong : (t : Bool) (fault : Fault) → ((wrong_if t fault ≡ Finding.Right) × (t ≡ false)) ⊎ ((wrong_if t fault ≡ Finding.Wrong fault) × (t ≡ true))
+found_wrong : (t : Bool) (fault : Fault) → ((wrong_if t fault ≡ Ok tt) × (t ≡ false)) ⊎ ((wrong_if t fault ≡ Err fault) × (t ≡ true))
 found_wrong true fault = inr (if_holds true fault refl, refl)
 found_wrong false fault = inl (if_clear false fault refl, refl)
 
 -- a word is right, not used and not zero, or else does not fit
 data Told (g : Message) (used : Bool) (x : ℕ) : Type 0 where
-  right : word_finding g used x ≡ Finding.Right → word_fits g x ≡ true → (used ≡ false → x ≡ 0) → Told g used x
-  unused : word_finding g used x ≡ Finding.Wrong Fault.Unused → used ≡ false → (x ≡ 0 → ⊥) → Told g used x
-  width : word_finding g used x ≡ Finding.Wrong Fault.Width → word_fits g x ≡ false → (used ≡ false → x ≡ 0) → Told g used x
+  right : word_finding g used x ≡ Ok tt → word_fits g x ≡ true → (used ≡ false → x ≡ 0) → Told g used x
+  unused : word_finding g used x ≡ Err Fault.Unused → used ≡ false → (x ≡ 0 → ⊥) → Told g used x
+  width : word_finding g used x ≡ Err Fault.Width → word_fits g x ≡ false → (used ≡ false → x ≡ 0) → Told g used x
 
 told : (g : Message) (used : Bool) (x : ℕ) → Told g used x
 unfolding word_finding
@@ -138,11 +139,11 @@ module _ (s : List ℕ) (i k : ℕ) where
   is_named = named (is_message s i) k
 
   data Way : Type 0 where
-    right : finding_at s i k ≡ Finding.Right → (is_named ≡ true) ⊎ (nonzero_at s i k ≡ false) → Way
-    range : finding_at s i k ≡ Finding.Wrong Fault.Range → is_named ≡ true → k < 8 → Way
-    reserved : finding_at s i k ≡ Finding.Wrong Fault.Reserved → is_named ≡ false → nonzero_at s i k ≡ true → Way
-    unused : finding_at s i k ≡ Finding.Wrong Fault.Unused → is_named ≡ true → UnusedWord s i k → Way
-    width : finding_at s i k ≡ Finding.Wrong Fault.Width → is_named ≡ true → UnfitWord s i k → Way
+    right : finding_at s i k ≡ Ok tt → (is_named ≡ true) ⊎ (nonzero_at s i k ≡ false) → Way
+    range : finding_at s i k ≡ Err Fault.Range → is_named ≡ true → k < 8 → Way
+    reserved : finding_at s i k ≡ Err Fault.Reserved → is_named ≡ false → nonzero_at s i k ≡ true → Way
+    unused : finding_at s i k ≡ Err Fault.Unused → is_named ≡ true → UnusedWord s i k → Way
+    width : finding_at s i k ≡ Err Fault.Width → is_named ≡ true → UnfitWord s i k → Way
 
   way : Way
   way = go (said s i k)
@@ -164,17 +165,17 @@ module _ (s : List ℕ) (i k : ℕ) where
   differ : {f g : Finding} {A : Type 0} → finding_at s i k ≡ f → finding_at s i k ≡ g → (tag f ≡ tag g → ⊥) → A
   differ e h apart = absurd (apart (ap tag (sym e ∙ h)))
 
-  reserved_way : (finding_at s i k ≡ Finding.Wrong Fault.Reserved) ↔ ((is_named ≡ false) × (byte_at s i k ≡ 0 → ⊥))
+  reserved_way : (finding_at s i k ≡ Err Fault.Reserved) ↔ ((is_named ≡ false) × (byte_at s i k ≡ 0 → ⊥))
   reserved_way = (to way, λ h. from way h.0 h.1)
     where
-      to : Way → finding_at s i k ≡ Finding.Wrong Fault.Reserved → (is_named ≡ false) × (byte_at s i k ≡ 0 → ⊥)
+      to : Way → finding_at s i k ≡ Err Fault.Reserved → (is_named ≡ false) × (byte_at s i k ≡ 0 → ⊥)
       to (Way.right e n) w = differ e w (λ z. omega arith)
       to (Way.range e n l) w = differ e w (λ z. omega arith)
       to (Way.reserved e n o) w = (n, simp meanings at o)
       to (Way.unused e n u) w = differ e w (λ z. omega arith)
       to (Way.width e n u) w = differ e w (λ z. omega arith)
 
-      from : Way → is_named ≡ false → (byte_at s i k ≡ 0 → ⊥) → finding_at s i k ≡ Finding.Wrong Fault.Reserved
+      from : Way → is_named ≡ false → (byte_at s i k ≡ 0 → ⊥) → finding_at s i k ≡ Err Fault.Reserved
       from (Way.right e n) other nonzero = ⊎_elim (λ y. absurd (true≢false (sym y ∙ other))) (λ z. absurd (nonzero (simp meanings at z))) n
       from (Way.range e n l) other nonzero = absurd (true≢false (sym n ∙ other))
       from (Way.reserved e n o) other nonzero = e
@@ -188,17 +189,17 @@ module _ (s : List ℕ) (i k : ℕ) where
   word_after (WordAt.initial e u w) = omega arith
 
   range_way :
-      (finding_at s i k ≡ Finding.Wrong Fault.Range) ↔ ((is_named ≡ true) × (k < 8) × (finding_at s i k ≡ Finding.Right → ⊥))
+      (finding_at s i k ≡ Err Fault.Range) ↔ ((is_named ≡ true) × (k < 8) × (finding_at s i k ≡ Ok tt → ⊥))
   range_way = (to way, λ h. from way h.0 h.1 h.2)
     where
-      to : Way → finding_at s i k ≡ Finding.Wrong Fault.Range → (is_named ≡ true) × (k < 8) × (finding_at s i k ≡ Finding.Right → ⊥)
+      to : Way → finding_at s i k ≡ Err Fault.Range → (is_named ≡ true) × (k < 8) × (finding_at s i k ≡ Ok tt → ⊥)
       to (Way.right e n) w = differ e w (λ z. omega arith)
       to (Way.range e n l) w = (n, l, λ right. differ e right (λ z. omega arith))
       to (Way.reserved e n o) w = differ e w (λ z. omega arith)
       to (Way.unused e n u) w = differ e w (λ z. omega arith)
       to (Way.width e n u) w = differ e w (λ z. omega arith)
 
-      from : Way → is_named ≡ true → k < 8 → (finding_at s i k ≡ Finding.Right → ⊥) → finding_at s i k ≡ Finding.Wrong Fault.Range
+      from : Way → is_named ≡ true → k < 8 → (finding_at s i k ≡ Ok tt → ⊥) → finding_at s i k ≡ Err Fault.Range
       from (Way.right e n) there l wrong = absurd (wrong e)
       from (Way.range e n b) there l wrong = e
       from (Way.reserved e n o) there l wrong = absurd (true≢false (sym there ∙ n))
@@ -218,25 +219,25 @@ module _ (s : List ℕ) (i k : ℕ) where
       go (WordAt.x2 e u w) = rw (e, u, w) refl
       go (WordAt.initial e u w) = rw (e, u, w) refl
 
-  unused_way : (finding_at s i k ≡ Finding.Wrong Fault.Unused) ↔ UnusedWord s i k
+  unused_way : (finding_at s i k ≡ Err Fault.Unused) ↔ UnusedWord s i k
   unused_way = (to way, λ u. word_found u.message u.word ∙ from u.not_used u.not_zero (told _ _ _))
     where
-      to : Way → finding_at s i k ≡ Finding.Wrong Fault.Unused → UnusedWord s i k
+      to : Way → finding_at s i k ≡ Err Fault.Unused → UnusedWord s i k
       to (Way.right e n) w = differ e w (λ z. omega arith)
       to (Way.range e n l) w = differ e w (λ z. omega arith)
       to (Way.reserved e n o) w = differ e w (λ z. omega arith)
       to (Way.unused e n u) w = u
       to (Way.width e n u) w = differ e w (λ z. omega arith)
 
-      from : {g : Message} {used : Bool} {x : ℕ} → used ≡ false → (x ≡ 0 → ⊥) → Told g used x → word_finding g used x ≡ Finding.Wrong Fault.Unused
+      from : {g : Message} {used : Bool} {x : ℕ} → used ≡ false → (x ≡ 0 → ⊥) → Told g used x → word_finding g used x ≡ Err Fault.Unused
       from off nonzero (Told.right e fits none) = absurd (nonzero (none off))
       from off nonzero (Told.unused e a b) = e
       from off nonzero (Told.width e wide none) = absurd (nonzero (none off))
 
-  width_way : (finding_at s i k ≡ Finding.Wrong Fault.Width) ↔ UnfitWord s i k
+  width_way : (finding_at s i k ≡ Err Fault.Width) ↔ UnfitWord s i k
   width_way = (to way, λ u. word_found u.message u.word ∙ from u.unfit u.not_unused (told _ _ _))
     where
-      to : Way → finding_at s i k ≡ Finding.Wrong Fault.Width → UnfitWord s i k
+      to : Way → finding_at s i k ≡ Err Fault.Width → UnfitWord s i k
       to (Way.right e n) w = differ e w (λ z. omega arith)
       to (Way.range e n l) w = differ e w (λ z. omega arith)
       to (Way.reserved e n o) w = differ e w (λ z. omega arith)
@@ -245,7 +246,7 @@ module _ (s : List ℕ) (i k : ℕ) where
 
       from :
           {g : Message} {used : Bool} {x : ℕ} → word_fits g x ≡ false → (used ≡ false → x ≡ 0) → Told g used x
-          → word_finding g used x ≡ Finding.Wrong Fault.Width
+          → word_finding g used x ≡ Err Fault.Width
       from wide zeros (Told.right e fits none) = absurd (true≢false (sym fits ∙ wide))
       from wide zeros (Told.unused e off nonzero) = absurd (nonzero (zeros off))
       from wide zeros (Told.width e also none) = e

@@ -1,13 +1,12 @@
 -- What is found at a byte of a record, in the paper's words: each of the four ways in which it can be wrong. Each line is a theorem; proofs/Ways.antt
 -- has the proofs.
 -- Assumes nothing.
-use Rattle.std.specs.Prelude.{◌≡◌, Bool, true, false, cond, ◌||◌, List, ◌↔◌, ℕ, ◌<◌, leb}
+use Rattle.std.specs.Prelude.{◌≡◌, Bool, true, false, cond, ◌||◌, List, ◌↔◌, ℕ, ◌<◌, leb, Ok, Err}
 use Rattle.record.specs.Numbers.{within}
 use Rattle.record.specs.Records.{byte_at, is_message, message_at}
 use Rattle.ranges.specs.Ranges.{uses_x1, uses_x2, word_fits, finding_at}
 use Rattle.record.specs.declared.Message.{Message}
 use Rattle.ranges.specs.declared.Fault.{Fault}
-use Rattle.ranges.specs.declared.Finding.{Finding}
 
 -- the paper's table names byte k: 0 to 6 and 8 to 19 of a message, 0 to 5 of any other record
 abbrev pub named : Bool → ℕ → Bool
@@ -40,11 +39,11 @@ pub record UnfitWord (s : List ℕ) (i k : ℕ) : Type 0 where
 pub record Claims : Type 0 where
   -- RESERVED: a byte that is not named, and not zero
   pub reserved : (s : List ℕ) (i k : ℕ)
-      → (finding_at s i k ≡ Finding.Wrong Fault.Reserved) ↔ ((named (is_message s i) k ≡ false) × (byte_at s i k ≡ 0 → ⊥))
+      → (finding_at s i k ≡ Err Fault.Reserved) ↔ ((named (is_message s i) k ≡ false) × (byte_at s i k ≡ 0 → ⊥))
   -- UNUSED: a word that the filter does not use, and not zero
-  pub unused : (s : List ℕ) (i k : ℕ) → (finding_at s i k ≡ Finding.Wrong Fault.Unused) ↔ UnusedWord s i k
+  pub unused : (s : List ℕ) (i k : ℕ) → (finding_at s i k ≡ Err Fault.Unused) ↔ UnusedWord s i k
   -- WIDTH: a word that does not fit, and is not UNUSED
-  pub width : (s : List ℕ) (i k : ℕ) → (finding_at s i k ≡ Finding.Wrong Fault.Width) ↔ UnfitWord s i k
+  pub width : (s : List ℕ) (i k : ℕ) → (finding_at s i k ≡ Err Fault.Width) ↔ UnfitWord s i k
   -- RANGE for the rest: a byte that is named, belongs to no word and is not right; the words begin at byte 8, and other records name none from there on
   pub range : (s : List ℕ) (i k : ℕ)
-      → (finding_at s i k ≡ Finding.Wrong Fault.Range) ↔ ((named (is_message s i) k ≡ true) × (k < 8) × (finding_at s i k ≡ Finding.Right → ⊥))
+      → (finding_at s i k ≡ Err Fault.Range) ↔ ((named (is_message s i) k ≡ true) × (k < 8) × (finding_at s i k ≡ Ok tt → ⊥))

@@ -1,6 +1,6 @@
 -- What is wrong at each byte of a record, 0 to 23, and the lowest byte that is; what is wrong with a word stands at its first byte.
 -- Assumes nothing.
-use Rattle.std.specs.Prelude.{◌≡◌, Bool, true, false, not, cond, ◌&&◌, ◌||◌, List, [], ◌∷◌, ℕ, suc, ◌<◌, eqb, ltb, leb, get_or}
+use Rattle.std.specs.Prelude.{◌≡◌, Bool, true, false, not, cond, ◌&&◌, ◌||◌, List, [], ◌∷◌, ℕ, suc, ◌<◌, eqb, ltb, leb, get_or, Result, Ok, Err}
 use Rattle.packing.specs.Values.{extended}
 use Rattle.float.specs.Patterns.{aside}
 use Rattle.record.specs.Numbers.{within, any_below, least_below}
@@ -9,12 +9,23 @@ use Rattle.record.specs.declared.Frame.{Frame}
 use Rattle.record.specs.declared.Message.{Message}
 use Rattle.record.specs.declared.Field.{Field}
 use Rattle.ranges.specs.declared.Fault.{Fault}
-use Rattle.ranges.specs.declared.Finding.{Finding}
 use Rattle.ranges.specs.declared.RangeFault.{RangeFault}
+
+-- what is found at a byte: that it is right, or how it is wrong
+abbrev pub Finding : Type 0
+Finding = Result (Unit {0}) Fault
+
+-- what is found in a record: that all is right, or its lowest wrong byte
+abbrev pub RecordFinding : Type 0
+RecordFinding = Result (Unit {0}) RangeFault
+
+-- this byte, wrong in this way
+abbrev pub wrong_byte : Fault → ℕ → RangeFault
+wrong_byte fault k = record { fault = fault; byte = k }
 
 -- a byte that is wrong in this way where the test holds
 unfoldable pub wrong_if : Bool → Fault → Finding
-wrong_if wrong fault = cond wrong (Finding.Wrong fault) Finding.Right
+wrong_if wrong fault = cond wrong (Err fault) (Ok tt)
 
 -- x1 serves filters 2, 3, 6, 7, 8, 9, and x2 serves 2, 3, 8, 9
 abbrev pub uses_x1 : ℕ → Bool
@@ -37,12 +48,12 @@ word_fits g x = extended (eqb g.sign 1) g.width x && not (is_float g && aside x)
 
 -- a word of a message: UNUSED where it is not used and not zero, and after that WIDTH where it does not fit
 unfoldable pub word_finding : Message → Bool → ℕ → Finding
-word_finding g used x = cond (not used && not (eqb x 0)) (Finding.Wrong Fault.Unused) (wrong_if (not (word_fits g x)) Fault.Width)
+word_finding g used x = cond (not used && not (eqb x 0)) (Err Fault.Unused) (wrong_if (not (word_fits g x)) Fault.Width)
 
 -- a frame's bytes 0 to 5: kind, number, length, order, direction, trigger
 abbrev pub frame_findings : Frame → List Finding
 frame_findings h =
-    Finding.Right
+    Ok tt
     ∷ wrong_if (ltb 31 h.number) Fault.Range
     ∷ wrong_if (not (within 1 32 h.length)) Fault.Range
     ∷ wrong_if (ltb 1 h.order) Fault.Range
@@ -54,7 +65,7 @@ frame_findings h =
 -- a float has 32 bits, and takes no mask
 abbrev pub message_findings : Message → Bool → List Finding
 message_findings g other =
-    Finding.Right
+    Ok tt
     ∷ wrong_if (ltb 31 g.number) Fault.Range
     ∷ wrong_if (not (within 1 32 g.width)) Fault.Range
     ∷ wrong_if (ltb 2 g.sign || (is_float g && not (eqb g.width 32))) Fault.Range
@@ -62,18 +73,18 @@ message_findings g other =
     ∷ wrong_if (ltb 2 g.agreement || (eqb g.direction 1 && not (eqb g.agreement 0))) Fault.Range
     ∷ wrong_if (ltb 13 g.filter || (is_float g && is_mask g.filter)) Fault.Range
     ∷ wrong_if other Fault.Reserved
-    ∷ word_finding g (uses_x1 g.filter) g.x1 ∷ Finding.Right ∷ Finding.Right ∷ Finding.Right
-    ∷ word_finding g (uses_x2 g.filter) g.x2 ∷ Finding.Right ∷ Finding.Right ∷ Finding.Right
-    ∷ word_finding g true g.initial ∷ Finding.Right ∷ Finding.Right ∷ Finding.Right
+    ∷ word_finding g (uses_x1 g.filter) g.x1 ∷ Ok tt ∷ Ok tt ∷ Ok tt
+    ∷ word_finding g (uses_x2 g.filter) g.x2 ∷ Ok tt ∷ Ok tt ∷ Ok tt
+    ∷ word_finding g true g.initial ∷ Ok tt ∷ Ok tt ∷ Ok tt
     ∷ []
 
 -- a field's bytes 0 to 5: kind, message, frame and start bit, which have no range, status bit present, and its place, 0 if absent
 abbrev pub field_findings : Field → List Finding
 field_findings r =
-    Finding.Right
-    ∷ Finding.Right
-    ∷ Finding.Right
-    ∷ Finding.Right
+    Ok tt
+    ∷ Ok tt
+    ∷ Ok tt
+    ∷ Ok tt
     ∷ wrong_if (ltb 1 r.status) Fault.Range
     ∷ wrong_if (eqb r.status 0 && not (eqb r.place 0)) Fault.Range
     ∷ []
@@ -108,46 +119,46 @@ reserved_from s i a k = wrong_if (leb a k && nonzero_at s i k) Fault.Reserved
 
 -- a byte is wrong
 abbrev pub is_wrong : Finding → Bool
-is_wrong Finding.Right = false
-is_wrong (Finding.Wrong fault) = true
+is_wrong (Ok u) = false
+is_wrong (Err fault) = true
 
 unfoldable pub wrong_at : (ℕ → Finding) → ℕ → Bool
 wrong_at p k = is_wrong (p k)
 
 -- how byte k is wrong, with the byte
-abbrev pub fault_at : ℕ → Finding → RangeFault
-fault_at k Finding.Right = RangeFault.None
-fault_at k (Finding.Wrong fault) = RangeFault.At fault k
+abbrev pub fault_at : ℕ → Finding → RecordFinding
+fault_at k (Ok u) = Ok u
+fault_at k (Err fault) = Err (wrong_byte fault k)
 
 -- the first of two faults, where the earlier is one
-abbrev pub or_else : RangeFault → RangeFault → RangeFault
-or_else RangeFault.None later = later
-or_else (RangeFault.At fault k) later = RangeFault.At fault k
+abbrev pub or_else : RecordFinding → RecordFinding → RecordFinding
+or_else (Ok u) later = later
+or_else (Err e) later = Err e
 
 -- the first that is wrong of what is found at bytes k, k + 1, ..
-unfoldable pub first_wrong : ℕ → List Finding → RangeFault
-first_wrong k [] = RangeFault.None
+unfoldable pub first_wrong : ℕ → List Finding → RecordFinding
+first_wrong k [] = Ok tt
 first_wrong k (f ∷ l) = or_else (fault_at k f) (first_wrong (suc k) l)
 
 -- the lowest of the 24 bytes that is wrong, and how it is
-unfoldable pub lowest_fault : (ℕ → Finding) → RangeFault
-lowest_fault p = cond (any_below (wrong_at p) 24) (fault_at (least_below (wrong_at p) 24) (p (least_below (wrong_at p) 24))) RangeFault.None
+unfoldable pub lowest_fault : (ℕ → Finding) → RecordFinding
+lowest_fault p = cond (any_below (wrong_at p) 24) (fault_at (least_below (wrong_at p) 24) (p (least_below (wrong_at p) 24))) (Ok tt)
 
 -- what is wrong with record i, and at which byte
-unfoldable pub range_fault : List ℕ → ℕ → RangeFault
+unfoldable pub range_fault : List ℕ → ℕ → RecordFinding
 range_fault s i = lowest_fault (finding_at s i)
 
 -- there is a wrong byte
-abbrev pub is_fault : RangeFault → Bool
-is_fault RangeFault.None = false
-is_fault (RangeFault.At fault k) = true
+abbrev pub is_fault : RecordFinding → Bool
+is_fault (Ok u) = false
+is_fault (Err e) = true
 
 -- byte k is the lowest that is wrong, and it is wrong in this way
 pub record LowestWrong (p : ℕ → Finding) (fault : Fault) (k : ℕ) : Type 0 where
   pub byte : k < 24
-  pub wrong : p k ≡ Finding.Wrong fault
-  pub lowest : (j : ℕ) → j < k → p j ≡ Finding.Right
+  pub wrong : p k ≡ Err fault
+  pub lowest : (j : ℕ) → j < k → p j ≡ Ok tt
 
 -- no byte is wrong
 abbrev pub AllRight : (ℕ → Finding) → Type 0
-AllRight p = (k : ℕ) → k < 24 → p k ≡ Finding.Right
+AllRight p = (k : ℕ) → k < 24 → p k ≡ Ok tt

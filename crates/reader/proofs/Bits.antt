@@ -28,12 +28,12 @@ use Rattle.ranges.specs.Ranges.{finding_at, AllRight}
 use Rattle.layout.specs.Counts.{counts_before, message_numbered}
 use Rattle.layout.specs.Verdict.{ref_fault, place_fault, clash_at, fails_at}
 use Rattle.layout.specs.WellLaid.{FrameRecord, MessageRecord}
-use Rattle.reader.specs.Carried.{at_hand, number_after, Lacks, lacking_after, uses_of, TableOf, HasRow, Fits, Carried}
+use Rattle.reader.specs.Carried.{at_hand, fields_after, Lacks, lacking_after, uses_of, TableOf, HasRow, Fits, Carried}
 use Rattle.layout.specs.declared.Counts.{Counts}
 use Rattle.layout.proofs.Sorted.{Parted, parted}
 use Rattle.layout.proofs.Faults.{field_right, ref_clear}
 use Rattle.layout.proofs.Accepted.{frame_passes, message_passes}
-use Rattle.layout.proofs.Refused.{passes}
+use Rattle.layout.proofs.Demands.{passes}
 use Rattle.reader.proofs.Carried.{AllPassed, ordered, back, last, number_next, lacking_next}
 use Rattle.reader.proofs.Reading.{counts_none}
 
@@ -223,9 +223,10 @@ module _ (s : List ℕ) where
 
   -- ---- what is carried
 
-  pub carried_none : {t : List ℕ} → t ≡ replicate table_size 0 → Carried s 0 (record { frames = 0; messages = 0; fields = 0 }) 0 t
+  pub carried_none :
+      {c : Counts} {t : List ℕ} → (c.frames ≡ 0) × ((c.messages ≡ 0) × (c.fields ≡ 0)) → t ≡ replicate table_size 0 → Carried s 0 c 0 t
   unfolding any_below tally at_hand
-  carried_none e = record { passes = refl; counts = counts_none s; hand = refl; table = rw e (none_added 0) }
+  carried_none {c} none e = record { passes = refl; counts = counts_none s none; hand = refl; table = rw e (none_added c.frames) }
 
   module _ (i : ℕ) {c : Counts} {number : ℕ} {t : List ℕ} (w : Carried s i c number t) (here : fails_at s i ≡ false) where
     pub all_passed : AllPassed s (suc i)
@@ -238,7 +239,7 @@ module _ (s : List ℕ) where
         fits i c row (rw w.counts p.place)
 
     pub carried_next :
-        {d : Counts} {u : List ℕ} → d ≡ counts_before s (i + 1) → TableOf s c.frames (i + 1) u → Carried s (i + 1) d (number_after s i number) u
+        {d : Counts} {u : List ℕ} → d ≡ counts_before s (i + 1) → TableOf s c.frames (i + 1) u → Carried s (i + 1) d (fields_after s i number) u
     carried_next {d} {u} counted with_run =
         record {
           passes = none_more (fails_at s) i w.passes here;

@@ -13,21 +13,21 @@ use native.Mathlib.Omega.{arith}
 use native.Mathlib.Decide.{ℕ_discrete}
 use lib.Dec.{eqb, ltb}
 use borrow.Author.Tests.{ltb-true, ltb-false, lt-ltb, eqb-true, eqb-false, eq-eqb, ne_eqb}
+use Rattle.std.specs.Prelude.{Ok, Err}
 use Rattle.record.specs.Numbers.{tally, any_below}
 use Rattle.record.specs.Records.{byte_at, is_field, field_at}
 use Rattle.record.specs.declared.Field.{Field}
 use Rattle.record.proofs.Tests.{to_last, any_clear, meanings}
 use Rattle.record.proofs.Searches.{any_holds, found}
 use Rattle.layout.specs.Counts.{counts_before}
-use Rattle.layout.specs.Verdict.{is_field_of, fields_among, unlike, no_field, complete, fails_at}
+use Rattle.layout.specs.Verdict.{is_field_of, fields_among, unlike, no_field, complete, refused_at, fails_at}
 use Rattle.layout.specs.WellLaid.{Below}
-use Rattle.reader.specs.Carried.{at_hand, is_at_hand, earlier_by, Earlier, number_after, Lacks, lacking_after}
+use Rattle.reader.specs.Carried.{at_hand, is_at_hand, earlier_by, Earlier, fields_after, Lacks, lacking_after}
 use Rattle.layout.specs.declared.Counts.{Counts}
 use Rattle.layout.specs.declared.Refusal.{Refusal}
-use Rattle.layout.specs.declared.Verdict.{Verdict}
 use Rattle.layout.proofs.Tallies.{tally_none, tally_rises, tally_within}
 use Rattle.layout.proofs.Faults.{Ordered, order_clear, Alike, group_clear}
-use Rattle.layout.proofs.Refused.{passes}
+use Rattle.layout.proofs.Demands.{passes}
 
 -- ---- the last record
 
@@ -161,10 +161,10 @@ module _ (s : List ℕ) where
         simp meanings
         (λ field same. let w = last (suc i) pass k l field in omega (arith, rw (back i) at w.message, above (rw (back i) at w.field))))
 
-    pub number_next : {number : ℕ} → number ≡ at_hand s i → number_after s i number ≡ at_hand s (suc i)
-    unfolding number_after at_hand tally is_field_of is_field
+    pub number_next : {number : ℕ} → number ≡ at_hand s i → fields_after s i number ≡ at_hand s (suc i)
+    unfolding fields_after at_hand tally is_field_of is_field
     number_next {number} e =
-        subst (λ (k : ℕ). number_after s i number ≡ fields_among s (field_at s k).message (suc i)) (sym (back i)) (go (ℕ_discrete (byte_at s i 0) 3))
+        subst (λ (k : ℕ). fields_after s i number ≡ fields_among s (field_at s k).message (suc i)) (sym (back i)) (go (ℕ_discrete (byte_at s i 0) 3))
       where
         go : Dec (byte_at s i 0 ≡ 3) → cond (eqb (byte_at s i 0) 3) (earlier_by s i number + 1) 0 ≡ fields_among s (field_at s i).message (suc i)
         go (yes kind) =
@@ -212,7 +212,7 @@ module _ (s : List ℕ) where
 
   pub completed :
       (n : ℕ) (c : Counts) {m : ℕ} → Lacks s n m
-      → cond (ltb m c.messages) (Verdict.Refused Refusal.NoField (c.frames + m)) (Verdict.Accepted c.frames c.messages c.fields) ≡ complete s n c
+      → cond (ltb m c.messages) (Err (refused_at Refusal.NoField (c.frames + m))) (Ok c) ≡ complete s n c
   unfolding complete
   completed n c {m} w = go (ltb m c.messages) refl
     where
@@ -221,7 +221,7 @@ module _ (s : List ℕ) where
 
       go :
           (b : Bool) → ltb m c.messages ≡ b
-          → cond b (Verdict.Refused Refusal.NoField (c.frames + m)) (Verdict.Accepted c.frames c.messages c.fields) ≡ complete s n c
+          → cond b (Err (refused_at Refusal.NoField (c.frames + m))) (Ok c) ≡ complete s n c
       go true e = let lowest = found (no_field s n) m c.messages none_yet w.no_field_lem (ltb-true m c.messages e) in rw (lowest.some, lowest.least) refl
       go false e =
           let none = (any_clear (no_field s n) c.messages).1 (λ k l. w.some_field k (omega (arith, ltb-false m c.messages e))) in

@@ -10,29 +10,39 @@ use native.Mathlib.Nat.{add-zero, eq-or-lt_of_le}
 use native.Mathlib.Numerals.{add-one}
 use native.Mathlib.Omega.{arith}
 use lib.Dec.{leb}
-use borrow.Author.Tests.{leb-true}
+use borrow.Author.Tests.{leb-true, eqb-true, eqb-false}
+use Rattle.std.specs.Prelude.{Result, Ok, Err}
 use Rattle.record.specs.Numbers.{within, tally, any_below}
 use Rattle.record.specs.Records.{byte_at, is_frame, is_message, is_field, record_at}
 use Rattle.record.specs.declared.Record.{Record}
 use Rattle.record.proofs.Searches.{Found, found}
 use Rattle.record.proofs.Tests.{and_holds}
 use Rattle.layout.specs.Counts.{counts_before, counted_by}
-use Rattle.layout.specs.Verdict.{order_fault, fails, read_at, fails_at, refusal_at, judged}
+use Rattle.layout.specs.Verdict.{order_fault, fails, read_at, refused_at, fails_at, refusal_at, judged}
 use Rattle.layout.specs.declared.Counts.{Counts}
 use Rattle.layout.specs.declared.Refusal.{Refusal}
-use Rattle.layout.specs.declared.Read.{Read}
-use Rattle.layout.specs.declared.Verdict.{Verdict}
 use Rattle.layout.proofs.Tallies.{tally_within}
 
 -- ---- what a reading says of the tests
 
-record_passes : (b : Bool) (n : Refusal) (q r : Record) → cond b (Read.Refused n) (Read.Record q) ≡ Read.Record r → b ≡ false
+record_passes : (b : Bool) (n : Refusal) (q r : Record) → cond b (Err n) (Ok q) ≡ Ok r → b ≡ false
 record_passes true n q r e = cc
 record_passes false n q r e = refl
 
-refused_fails : (b : Bool) (n m : Refusal) (q : Record) → cond b (Read.Refused n) (Read.Record q) ≡ Read.Refused m → (b ≡ true) × (n ≡ m)
+refused_fails : (b : Bool) (n m : Refusal) (q : Record) → cond b (Err n) (Ok q) ≡ Err m → (b ≡ true) × (n ≡ m)
 refused_fails true n m q e = (refl, cc)
 refused_fails false n m q e = (cc, cc)
+
+-- ---- the code's test of the kind
+
+module _ (s : List ℕ) (i : ℕ) {b : Bool} (told : b ≡ is_field s i) where
+  pub kind_three : b ≡ true → byte_at s i 0 ≡ 3
+  unfolding is_field
+  kind_three e = eqb-true (byte_at s i 0) 3 (sym told ∙ e)
+
+  pub kind_other : b ≡ false → byte_at s i 0 ≡ 3 → ⊥
+  unfolding is_field
+  kind_other e = eqb-false (byte_at s i 0) 3 (sym told ∙ e)
 
 -- ---- the three kinds
 
@@ -53,9 +63,11 @@ three_kinds k e = first (eq-or-lt_of_le (leb-true 1 k both.0))
 module _ (s : List ℕ) where
   -- ---- the counts
 
-  pub counts_none : record { frames = 0; messages = 0; fields = 0 } ≡ counts_before s 0
+  pub counts_none : {c : Counts} → (c.frames ≡ 0) × ((c.messages ≡ 0) × (c.fields ≡ 0)) → c ≡ counts_before s 0
   unfolding counts_before tally
-  counts_none = refl
+  counts_none {c} none =
+      let each : record { frames = c.frames; messages = c.messages; fields = c.fields } ≡ counts_before s 0 = rw (none.0, none.1.0, none.1.1) refl in
+      each
 
   pub record Few (i : ℕ) (c : Counts) : Type 0 where
     pub frames : c.frames ≤ i
@@ -69,7 +81,7 @@ module _ (s : List ℕ) where
   module _ (i : ℕ) where
     counts_more :
         (byte_at s i 0 ≡ 1) ⊎ ((byte_at s i 0 ≡ 2) ⊎ (byte_at s i 0 ≡ 3))
-        → counted_by (counts_before s i) (Read.Record (record_at s i)) ≡ counts_before s (i + 1)
+        → counted_by (counts_before s i) (Ok (record_at s i)) ≡ counts_before s (i + 1)
     unfolding counts_before tally record_at is_frame is_message is_field
     counts_more (inl kind) = rw (add-one, kind) (simp add-zero)
     counts_more (inr (inl kind)) = rw (add-one, kind) (simp add-zero)
@@ -87,15 +99,15 @@ module _ (s : List ℕ) where
       pub passes : fails_at s i ≡ false
       pub counts : d ≡ counts_before s (i + 1)
 
-    module _ {c : Counts} {x : Read} (before : c ≡ counts_before s i) (read : x ≡ read_at s i c) where
-      pub passed : {r : Record} {d : Counts} → x ≡ Read.Record r → d ≡ counted_by c x → Passed d
+    module _ {c : Counts} {x : Result Record Refusal} (before : c ≡ counts_before s i) (read : x ≡ read_at s i c) where
+      pub passed : {r : Record} {d : Counts} → x ≡ Ok r → d ≡ counted_by c x → Passed d
       unfolding read_at fails_at
       passed {r} e counted =
           let passes : fails_at s i ≡ false = rw (← before) (record_passes (fails s i c) _ (record_at s i) r (sym read ∙ e)) in
           let kind = three_kinds (byte_at s i 0) (kind_tested _ refl passes) in
           record { passes = passes; counts = rw (counted, read, before, passes) (counts_more kind) }
 
-      pub refused : {m : Refusal} (n : ℕ) → x ≡ Read.Refused m → any_below (fails_at s) i ≡ false → i < n → Verdict.Refused m i ≡ judged s n
+      pub refused : {m : Refusal} (n : ℕ) → x ≡ Err m → any_below (fails_at s) i ≡ false → i < n → Err (refused_at m i) ≡ judged s n
       unfolding read_at fails_at refusal_at judged
       refused {m} n e none l =
           let failing = refused_fails (fails s i c) _ m (record_at s i) (sym read ∙ e) in

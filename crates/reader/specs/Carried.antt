@@ -30,9 +30,9 @@ pub record Earlier (s : List ℕ) (i earlier : ℕ) : Type 0 where
   pub number : byte_at s i 0 ≡ 3 → fields_among s (field_at s i).message i ≡ earlier
   pub status : byte_at s i 0 ≡ 3 → any_below (unlike s (field_at s i)) i ≡ (ltb 0 earlier && not (eqb (field_at s (i - 1)).status (field_at s i).status))
 
--- the number of the message at hand with record i
-unfoldable pub number_after : List ℕ → ℕ → ℕ → ℕ
-number_after s i number = cond (is_field s i) (earlier_by s i number + 1) 0
+-- how many fields of the message at hand there are with record i
+unfoldable pub fields_after : List ℕ → ℕ → ℕ → ℕ
+fields_after s i number = cond (is_field s i) (earlier_by s i number + 1) 0
 
 -- message m is the lowest without a field among the first i records
 pub record Lacks (s : List ℕ) (i m : ℕ) : Type 0 where

@@ -5,6 +5,7 @@ ghost use Rattle.std.specs.Prelude.{◌≡◌, ◌+◌, ◌*◌, ◌≤◌, leng
 ghost use Rattle.record.specs.Records.{byte_at, record_bytes, word_at, frame_at, message_at, field_at, record_at, pair_below};
 ghost use Rattle.record.specs.Runs.{status_run, past_end, meet};
 
+// Bytes and no enums: RANGE must see each byte that a file can have.
 #[derive(Clone, Copy)]
 pub struct Frame {
     pub number: u8,
@@ -14,6 +15,7 @@ pub struct Frame {
     pub trigger: u8,
 }
 
+// Bytes and no enums, as above.
 #[derive(Clone, Copy)]
 pub struct Message {
     pub number: u8,
@@ -27,6 +29,7 @@ pub struct Message {
     pub initial: u32,
 }
 
+// Bytes and no enums, as above.
 #[derive(Clone, Copy)]
 pub struct Field {
     pub message: u8,
@@ -50,18 +53,25 @@ pub struct Run {
     pub width: u8,
 }
 
+impl Run {
+    // The bit behind its last.
+    fn end(self) -> usize
+        ensures { result ≡ self.start + self.width }
+    {
+        self.start as usize + self.width as usize
+    }
+}
+
 // ---- reading
 
-// Byte k of record i, 0 past the end of the file.
+// A file and a number, and no struct of the two: docs/PROMISES.md names these functions, and a struct would be made anew at each call.
+
+// Byte k of record i, 0 past the end of the file. The bounds keep the sum from overflowing: one that saturates would need none, but takes three instructions more for each record read.
 pub fn byte(file: &[u8], i: usize, k: usize) -> u8
     requires { (i ≤ 1000) × (k ≤ 1000) }
     ensures { result ≡ byte_at file.now i k }
 {
-    let at = i * 24 + k;
-    if at < file.len() {
-        return file[at];
-    }
-    0
+    file.get(i * 24 + k).copied().unwrap_or(0)
 }
 
 fn word(file: &[u8], i: usize, k: usize) -> u32
@@ -81,9 +91,7 @@ pub fn bytes(file: &[u8], i: usize) -> &[u8]
     requires { (i ≤ 1000) × (i * 24 + 24 ≤ length file.now) }
     ensures { result.now ≡ record_bytes file.now i }
 {
-    let at = i * 24;
-    let end = at + 24;
-    &file[at..end]
+    &file[i * 24..i * 24 + 24]
 }
 
 pub fn frame_at(file: &[u8], i: usize) -> Frame
@@ -133,14 +141,12 @@ pub fn record_at(file: &[u8], i: usize) -> Record
     requires { i ≤ 1000 }
     ensures { result ≡ record_at file.now i }
 {
-    let kind = byte(file, i, 0);
-    if kind == 1 {
-        return Record::Frame(frame_at(file, i));
+    match byte(file, i, 0) {
+        1 => Record::Frame(frame_at(file, i)),
+        2 => Record::Message(message_at(file, i)),
+        // Any other kind reads as a field: ORDER comes first.
+        _ => Record::Field(field_at(file, i)),
     }
-    if kind == 2 {
-        return Record::Message(message_at(file, i));
-    }
-    Record::Field(field_at(file, i))
 }
 
 // ---- ORDER
@@ -148,7 +154,7 @@ pub fn record_at(file: &[u8], i: usize) -> Record
 pub fn pair_below(p: Field, r: Field) -> bool
     ensures { result ≡ pair_below p r }
 {
-    (p.message < r.message) | ((p.message == r.message) & (p.frame < r.frame))
+    (p.message, p.frame) < (r.message, r.frame)
 }
 
 // ---- PLACE
@@ -156,15 +162,14 @@ pub fn pair_below(p: Field, r: Field) -> bool
 pub fn past_end(n: u8, a: Run) -> bool
     ensures { result ≡ past_end n a }
 {
-    (0 < a.width) & (n as usize * 8 < a.start as usize + a.width as usize)
+    (0 < a.width) & (n as usize * 8 < a.end())
 }
 
 pub fn runs_meet(a: Run, b: Run) -> bool
     ensures { result ≡ meet a b }
 {
-    let a_end = a.start as usize + a.width as usize;
-    let b_end = b.start as usize + b.width as usize;
-    (0 < a.width) & ((0 < b.width) & (((a.start as usize) < b_end) & ((b.start as usize) < a_end)))
+    (0 < a.width)
+        & ((0 < b.width) & (((a.start as usize) < b.end()) & ((b.start as usize) < a.end())))
 }
 
 pub fn status_run(r: Field) -> Run

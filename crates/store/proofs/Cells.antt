@@ -2,12 +2,14 @@
 -- fits the cell. A cell is listed byte by byte, so the bytes go by their places, and a word by its four bytes.
 -- Assumes nothing.
 use mathlib.Core.Path.{◌≡◌, refl, ap, sym, ◌∙◌}
-use mathlib.Core.List.{List, [], ◌∷◌, ◌++◌, append-nil}
+use mathlib.Core.List.{List, [], ◌∷◌, ◌++◌}
 use Prim.Native.Nat.{ℕ, zero, suc, ◌+◌, ◌*◌, ◌/◌, ◌%◌, ◌^◌, ◌≤◌, ◌<◌, min}
 use native.Mathlib.Decide.{dec_lt}
 use native.Mathlib.Omega.{arith}
 use lib.ListN.{length, get_or, set, take, drop, replicate, length-append, length-drop, length-replicate, drop_of_length-le}
-use lib.Seq.{drop-cons, length-take-le, paste, take_all, take_at}
+use borrow.Author.Rules.{rules}
+use Rattle.std.specs.Int.{to_le_bytes, w32}
+use lib.Seq.{drop-cons, length-take-le, take_all, take_at}
 use Rattle.whole.specs.Whole.{Bytes}
 use Rattle.record.specs.declared.Field.{Field as FieldRecord}
 use Rattle.store.specs.Memory.{part, overwritten}
@@ -114,6 +116,10 @@ word_encoded c k l y =
     let fourth : get_or c (k + 3) 0 % 256 ≡ get_or c (k + 3) 0 = omega (arith, y (k + 3)) in
     rw (first.0, first.1, second.0, second.1, third.0, third.1, fourth) refl
 
+-- the library's bytes of a word are those
+pub word_bytes : (x : ℕ) → to_le_bytes w32 x ≡ word_then x []
+word_bytes x = search rules
+
 word_decoded : (x : ℕ) → x < 2 ^ 32 → word_in (word_then x []) 0 ≡ x
 word_decoded x h = omega arith
 
@@ -218,13 +224,11 @@ pub delivery_marked : (c : List ℕ) (k : ℕ) → length c ≡ 33 → delivery_
 unfolding delivery_of
 delivery_marked c k h = ap (λ (l : List ℕ). delivery_of (set l 0 k)) (sym (bytes_front c 1 (omega arith)))
 
-pub delivery_filled : (c d : List ℕ) → length c ≡ 33 → delivery_of (overwritten c 1 32 (paste (part c 1 32) 0 d (length d))) ≡ filled (delivery_of c) d
+pub delivery_filled : (c d : List ℕ) → length c ≡ 33 → delivery_of (overwritten c 1 (length d) d) ≡ filled (delivery_of c) d
 unfolding delivery_of
 delivery_filled c d h =
-    let size : length (drop 1 c) ≡ 32 = rw length-drop (omega arith) in
-    let old : part c 1 32 ≡ drop 1 c = take_all 32 (drop 1 c) (omega arith) in
-    let new : List ℕ = paste (drop 1 c) 0 d (length d) in
-    ap (λ (l : List ℕ). delivery_of (overwritten c 1 32 (paste l 0 d (length d)))) old
-    ∙ ap (λ (l : List ℕ). delivery_of (overwritten l 1 32 new)) (sym (bytes_front c 1 (omega arith)))
-    ∙ ap (λ (l : List ℕ). record { delivered = get_or c 0 0; bytes = l })
-    (ap (λ (l : List ℕ). new ++ l) (drop_of_length-le (drop 1 c) {i = 32} (omega arith)) ∙ append-nil new)
+    let n : ℕ = length d in
+    let behind : 1 + n ≡ suc n = omega arith in
+    let all : 0 + n ≡ n = omega arith in
+    ap (λ (l : List ℕ). delivery_of (overwritten l 1 n d)) (sym (bytes_front c 1 (omega arith)))
+    ∙ ap (λ (l : List ℕ). record { delivered = get_or c 0 0; bytes = l }) (rw (behind, all, take_all n d (omega arith)) refl)

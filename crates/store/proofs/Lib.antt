@@ -1,6 +1,5 @@
 pub mod Parts
 pub mod Regions
-pub mod Writes
 pub mod Cells
 pub mod Places
 pub mod Forgotten

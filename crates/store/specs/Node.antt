@@ -294,15 +294,7 @@ stage_at s d = get_or s.stages d no_stage
 
 -- a field is what its record says, and its stage
 abbrev pub field_at : Node → ℕ → Field
-field_at n d =
-    record {
-      message = (laid_at n.layout d).message;
-      frame = (laid_at n.layout d).frame;
-      start = (laid_at n.layout d).start;
-      status = (laid_at n.layout d).status;
-      place = (laid_at n.layout d).place;
-      stage = stage_at n.state d;
-    }
+field_at n d = record { laid = laid_at n.layout d; stage = stage_at n.state d }
 
 -- the data of frame f: as many of the delivery's bytes as the frame is long
 abbrev pub data_at : Node → ℕ → List ℕ

@@ -1,11 +1,9 @@
 // One node in memory that the caller lends: cells are read into structs, and what changes is written back; nothing else touches the bytes.
 #![tactic(auto)]
 
-ghost use Rattle.std.specs.Prelude.{◌≡◌, [], ◌++◌, ◌+◌, ◌<◌, ◌≤◌, min, ltb, length, replicate, drop};
-ghost use Rattle.std.proofs.Math.Seq.{paste};
+ghost use Rattle.std.specs.Prelude.{◌≡◌, List, ℕ, ◌++◌, ◌+◌, ◌<◌, ◌≤◌, min, ltb, length, replicate, drop};
+ghost use Rattle.store.specs.Memory.{part, overwritten};
 ghost use Rattle.store.specs.Node.{
-  word_in,
-  word_then,
   frame_of,
   frame_bytes,
   message_of,
@@ -14,6 +12,14 @@ ghost use Rattle.store.specs.Node.{
   laid_bytes,
   message_state_of,
   message_state_bytes,
+  is_signed,
+  is_float,
+  is_sent,
+  has_status_bit,
+  is_big,
+  is_sent_frame,
+  is_event,
+  is_valid,
   stage_of,
   code_of,
   node_size,
@@ -48,7 +54,25 @@ ghost use Rattle.store.specs.Writing.{empty_node, with_numbers, with_frame, with
 
 use layout::Counts;
 
-// ---- what the layout says
+// The memory of a node, as large as `node_size` says. An array and no struct with methods: C lends it, and slices of it are what the definitions speak of.
+pub type Node = [u8; 2851];
+
+// Where the regions begin behind the three counts, in their order.
+const FRAMES: usize = 3;
+
+const MESSAGES: usize = 195;
+
+const FIELDS: usize = 707;
+
+const INDEX: usize = 1347;
+
+const DELIVERIES: usize = 1475;
+
+const STATES: usize = 2531;
+
+const STAGES: usize = 2723;
+
+// ---- what the layout says. Kinds are bytes and no enums: on any memory a byte says anything, and `same_memory` needs each one back.
 
 // A frame: its fields are those whose numbers stand in the index from place first on, of that number.
 #[derive(Clone, Copy)]
@@ -61,8 +85,28 @@ pub struct Frame {
     pub fields: u8,
 }
 
+impl Frame {
+    pub fn is_big(self) -> bool
+        ensures { result ≡ is_big self }
+    {
+        self.order == 1
+    }
+
+    pub fn is_sent(self) -> bool
+        ensures { result ≡ is_sent_frame self }
+    {
+        self.direction == 1
+    }
+
+    pub fn is_event(self) -> bool
+        ensures { result ≡ is_event self }
+    {
+        self.trigger == 1
+    }
+}
+
 // A message: its fields are those from first on, of that number.
-#[derive(Clone, Copy)]
+#[derive(Clone, Copy, Default)]
 pub struct Message {
     pub width: u8,
     pub sign: u8,
@@ -76,18 +120,52 @@ pub struct Message {
     pub x2: u32,
 }
 
+impl Message {
+    pub fn is_signed(self) -> bool
+        ensures { result ≡ is_signed self }
+    {
+        self.sign == 1
+    }
+
+    pub fn is_float(self) -> bool
+        ensures { result ≡ is_float self }
+    {
+        self.sign == 2
+    }
+
+    pub fn is_sent(self) -> bool
+        ensures { result ≡ is_sent self }
+    {
+        self.direction == 1
+    }
+
+    pub fn has_status_bit(self) -> bool
+        ensures { result ≡ has_status_bit self }
+    {
+        self.statusbit != 0
+    }
+}
+
 // ---- what calls change
 
 // A message's validity, the pattern of the value that it holds, and its status. With the word in the middle they are more than eight bytes, and are not
-// packed into one register at each call.
-#[derive(Clone, Copy)]
+// packed into one register at each call. The validity is a byte and no truth value, as the kinds are.
+#[derive(Clone, Copy, Default)]
 pub struct MessageState {
     pub valid: u8,
     pub held: u32,
     pub status: u8,
 }
 
-// A sent field is waiting, loaded or gone; a gone one keeps its byte, so that every byte is a stage.
+impl MessageState {
+    pub fn is_valid(self) -> bool
+        ensures { result ≡ is_valid self }
+    {
+        self.valid != 0
+    }
+}
+
+// The paper's form: a sent field is waiting, loaded or gone; a gone one keeps its byte, so that every byte is a stage.
 #[derive(Clone, Copy)]
 pub enum Stage {
     Waiting,
@@ -98,212 +176,250 @@ pub enum Stage {
 // A field: its record, which the layout says, and its stage, which calls change.
 #[derive(Clone, Copy)]
 pub struct Field {
-    pub message: u8,
-    pub frame: u8,
-    pub start: u8,
-    pub status: u8,
-    pub place: u8,
+    pub laid: record::Field,
     pub stage: Stage,
 }
 
 // ---- cells
 
-fn word(c: &[u8], k: usize) -> u32
-    requires { (k + 4 ≤ length c.now) × (k < 100) }
-    ensures { result ≡ word_in c.now k }
-{
-    packing::word_of(c[k], c[k + 1], c[k + 2], c[k + 3])
+// What the memory holds in cells of N bytes, and how a cell is read and written. Each impl repeats the clause of `read`, which the check cannot give it yet.
+trait Cell<const N: usize> {
+    ghost of: { List ℕ → Self };
+
+    ghost bytes: { Self → List ℕ };
+
+    fn read(c: [u8; N]) -> Self
+        ensures { result ≡ of c.entry };
+
+    fn write(self) -> [u8; N]
+        ensures { result ≡ bytes self };
 }
 
-fn write_word(c: &mut [u8], x: u32)
-    requires { length c.old ≡ 4 }
-    ensures { c.new ≡ word_then x [] }
-{
-    c[0] = (x % 256) as u8;
-    c[1] = (x / 256 % 256) as u8;
-    c[2] = (x / 256 / 256 % 256) as u8;
-    c[3] = (x / 256 / 256 / 256 % 256) as u8;
-}
+impl Cell<6> for Frame {
+    ghost of = { frame_of };
 
-fn read_frame(c: &[u8]) -> Frame
-    requires { length c.now ≡ 6 }
-    ensures { result ≡ frame_of c.now }
-{
-    Frame {
-        length: c[0],
-        order: c[1],
-        direction: c[2],
-        trigger: c[3],
-        first: c[4],
-        fields: c[5],
+    ghost bytes = { frame_bytes };
+
+    #[tactic(auto, unfolding(crate::specs::Node::frame_of))]
+    fn read(c: [u8; 6]) -> Frame
+        ensures { result ≡ frame_of c }
+    {
+        let [length, order, direction, trigger, first, fields] = c;
+        Frame {
+            length,
+            order,
+            direction,
+            trigger,
+            first,
+            fields,
+        }
+    }
+
+    #[tactic(auto, unfolding(crate::specs::Node::frame_bytes))]
+    fn write(self) -> [u8; 6] {
+        [
+            self.length,
+            self.order,
+            self.direction,
+            self.trigger,
+            self.first,
+            self.fields,
+        ]
     }
 }
 
-fn write_frame(c: &mut [u8], h: Frame)
-    requires { length c.old ≡ 6 }
-    ensures { c.new ≡ frame_bytes h }
-{
-    c[0] = h.length;
-    c[1] = h.order;
-    c[2] = h.direction;
-    c[3] = h.trigger;
-    c[4] = h.first;
-    c[5] = h.fields;
-}
+impl Cell<16> for Message {
+    ghost of = { message_of };
 
-fn read_message(c: &[u8]) -> Message
-    requires { length c.now ≡ 16 }
-    ensures { result ≡ message_of c.now }
-{
-    Message {
-        width: c[0],
-        sign: c[1],
-        direction: c[2],
-        agreement: c[3],
-        filter: c[4],
-        statusbit: c[5],
-        first: c[6],
-        fields: c[7],
-        x1: word(c, 8),
-        x2: word(c, 12),
+    ghost bytes = { message_bytes };
+
+    #[tactic(auto, unfolding(crate::specs::Node::message_of))]
+    fn read(c: [u8; 16]) -> Message
+        ensures { result ≡ message_of c }
+    {
+        let [
+            width,
+            sign,
+            direction,
+            agreement,
+            filter,
+            statusbit,
+            first,
+            fields,
+            a0,
+            a1,
+            a2,
+            a3,
+            b0,
+            b1,
+            b2,
+            b3,
+        ] = c;
+        Message {
+            width,
+            sign,
+            direction,
+            agreement,
+            filter,
+            statusbit,
+            first,
+            fields,
+            x1: u32::from_le_bytes([a0, a1, a2, a3]),
+            x2: u32::from_le_bytes([b0, b1, b2, b3]),
+        }
+    }
+
+    #[tactic(auto, using(crate::proofs::Cells::word_bytes), unfolding(crate::specs::Node::message_bytes))]
+    fn write(self) -> [u8; 16] {
+        let [a0, a1, a2, a3] = self.x1.to_le_bytes();
+        let [b0, b1, b2, b3] = self.x2.to_le_bytes();
+        [
+            self.width,
+            self.sign,
+            self.direction,
+            self.agreement,
+            self.filter,
+            self.statusbit,
+            self.first,
+            self.fields,
+            a0,
+            a1,
+            a2,
+            a3,
+            b0,
+            b1,
+            b2,
+            b3,
+        ]
     }
 }
 
-fn write_message(c: &mut [u8], g: Message)
-    requires { length c.old ≡ 16 }
-    ensures { c.new ≡ message_bytes g }
-{
-    c[0] = g.width;
-    c[1] = g.sign;
-    c[2] = g.direction;
-    c[3] = g.agreement;
-    c[4] = g.filter;
-    c[5] = g.statusbit;
-    c[6] = g.first;
-    c[7] = g.fields;
-    write_word(&mut c[8..12], g.x1);
-    write_word(&mut c[12..16], g.x2);
-}
+impl Cell<5> for record::Field {
+    ghost of = { laid_of };
 
-fn read_laid(c: &[u8]) -> record::Field
-    requires { length c.now ≡ 5 }
-    ensures { result ≡ laid_of c.now }
-{
-    record::Field {
-        message: c[0],
-        frame: c[1],
-        start: c[2],
-        status: c[3],
-        place: c[4],
+    ghost bytes = { laid_bytes };
+
+    #[tactic(auto, unfolding(crate::specs::Node::laid_of))]
+    fn read(c: [u8; 5]) -> record::Field
+        ensures { result ≡ laid_of c }
+    {
+        let [message, frame, start, status, place] = c;
+        record::Field {
+            message,
+            frame,
+            start,
+            status,
+            place,
+        }
+    }
+
+    #[tactic(auto, unfolding(crate::specs::Node::laid_bytes))]
+    fn write(self) -> [u8; 5] {
+        [
+            self.message,
+            self.frame,
+            self.start,
+            self.status,
+            self.place,
+        ]
     }
 }
 
-fn write_laid(c: &mut [u8], x: record::Field)
-    requires { length c.old ≡ 5 }
-    ensures { c.new ≡ laid_bytes x }
-{
-    c[0] = x.message;
-    c[1] = x.frame;
-    c[2] = x.start;
-    c[3] = x.status;
-    c[4] = x.place;
-}
+impl Cell<6> for MessageState {
+    ghost of = { message_state_of };
 
-fn read_state(c: &[u8]) -> MessageState
-    requires { length c.now ≡ 6 }
-    ensures { result ≡ message_state_of c.now }
-{
-    MessageState {
-        valid: c[0],
-        status: c[1],
-        held: word(c, 2),
+    ghost bytes = { message_state_bytes };
+
+    #[tactic(auto, unfolding(crate::specs::Node::message_state_of))]
+    fn read(c: [u8; 6]) -> MessageState
+        ensures { result ≡ message_state_of c }
+    {
+        let [valid, status, h0, h1, h2, h3] = c;
+        MessageState {
+            valid,
+            status,
+            held: u32::from_le_bytes([h0, h1, h2, h3]),
+        }
+    }
+
+    #[tactic(auto, unfolding(crate::specs::Node::message_state_bytes))]
+    fn write(self) -> [u8; 6] {
+        let [h0, h1, h2, h3] = self.held.to_le_bytes();
+        [self.valid, self.status, h0, h1, h2, h3]
     }
 }
 
-fn write_state(c: &mut [u8], s: MessageState)
-    requires { length c.old ≡ 6 }
-    ensures { c.new ≡ message_state_bytes s }
+// The cell of N bytes that lies at a place.
+fn read_cell<const N: usize, C: Cell<N>>(node: &Node, at: usize) -> C
+    requires { at + N ≤ node_size }
+    ensures { result ≡ C.of (part node.now at N) }
 {
-    c[0] = s.valid;
-    c[1] = s.status;
-    write_word(&mut c[2..6], s.held);
+    let mut cell = [0; N];
+    cell.copy_from_slice(&node[at..at + N]);
+    C::read(cell)
 }
 
-fn stage_of(k: u8) -> Stage
-    ensures { result ≡ stage_of k }
+fn write_cell<const N: usize, C: Cell<N>>(node: &mut Node, at: usize, x: C)
+    requires { at + N ≤ node_size }
+    ensures { node.new ≡ overwritten node.old at N (C.bytes x) }
 {
-    if k == 0 {
-        return Stage::Waiting;
-    }
-    if k == 1 {
-        return Stage::Loaded;
-    }
-    Stage::Gone(k)
+    node[at..at + N].copy_from_slice(&x.write());
 }
 
-fn code_of(s: Stage) -> u8
-    ensures { result ≡ code_of s }
-{
-    match s {
-        Stage::Waiting => 0,
-        Stage::Loaded => 1,
-        Stage::Gone(k) => k,
+// A stage's cell is its one byte.
+impl From<u8> for Stage {
+    ghost from_gives = { λ k s. s ≡ stage_of k };
+
+    fn from(k: u8) -> Stage {
+        match k {
+            0 => Stage::Waiting,
+            1 => Stage::Loaded,
+            _ => Stage::Gone(k),
+        }
+    }
+}
+
+impl From<Stage> for u8 {
+    ghost from_gives = { λ s k. k ≡ code_of s };
+
+    fn from(s: Stage) -> u8 {
+        match s {
+            Stage::Waiting => 0,
+            Stage::Loaded => 1,
+            Stage::Gone(k) => k,
+        }
     }
 }
 
 // ---- where there is no message
 
+// A function, as `no_state` is, since docs/PROMISES.md names both.
 pub fn no_message() -> Message
     ensures { result ≡ no_message }
 {
-    Message {
-        width: 0,
-        sign: 0,
-        direction: 0,
-        agreement: 0,
-        filter: 0,
-        statusbit: 0,
-        first: 0,
-        fields: 0,
-        x1: 0,
-        x2: 0,
-    }
+    Message::default()
 }
 
 pub fn no_state() -> MessageState
     ensures { result ≡ no_state }
 {
-    MessageState {
-        valid: 0,
-        status: 0,
-        held: 0,
-    }
+    MessageState::default()
 }
 
 // ---- reading the layout
 
-pub fn smaller(a: usize, b: usize) -> usize
-    ensures { result ≡ min a b }
-{
-    if a <= b { a } else { b }
-}
-
-fn at_most(k: u8, most: usize) -> usize
-    ensures { result ≡ min k most }
-{
-    let n = k as usize;
-    if n <= most { n } else { most }
-}
+// A cell's number is a number with a `requires` and no type of its own: these functions ask no more than they asked (docs/PROMISES.md), and each call
+// on any memory tests it.
 
 // How many frames, messages and fields there are.
-pub fn counts_of(node: &[u8]) -> Counts
-    requires { length node.now ≡ node_size }
+#[tactic(auto, unfolding(crate::specs::Node::layout_of))]
+pub fn counts_of(node: &Node) -> Counts
     ensures { result ≡ counts_of (layout_of node.now) }
 {
     Counts {
-        frames: at_most(node[0], 32),
-        messages: at_most(node[1], 32),
-        fields: at_most(node[2], 128),
+        frames: (node[0] as usize).min(32),
+        messages: (node[1] as usize).min(32),
+        fields: (node[2] as usize).min(128),
     }
 }
 
@@ -315,194 +431,180 @@ fn is_counted(number: u64, count: u8) -> bool
 }
 
 // Whether there is a frame of that number.
-pub fn has_frame(node: &[u8], f: u64) -> bool
-    requires { length node.now ≡ node_size }
+#[tactic(auto, unfolding(crate::specs::Node::layout_of))]
+pub fn has_frame(node: &Node, f: u64) -> bool
     ensures { result ≡ ltb f (frame_count (layout_of node.now)) }
 {
     is_counted(f, node[0])
 }
 
 // Whether there is a message of that number.
-pub fn has_message(node: &[u8], m: u64) -> bool
-    requires { length node.now ≡ node_size }
+#[tactic(auto, unfolding(crate::specs::Node::layout_of))]
+pub fn has_message(node: &Node, m: u64) -> bool
     ensures { result ≡ ltb m (message_count (layout_of node.now)) }
 {
     is_counted(m, node[1])
 }
 
-pub fn frame_at(node: &[u8], f: usize) -> Frame
-    requires { (f < 32) × (length node.now ≡ node_size) }
+pub fn frame_at(node: &Node, f: usize) -> Frame
+    requires { f < 32 }
     ensures { result ≡ frame_at (layout_of node.now) f }
 {
-    let at = 3 + f * 6;
-    let end = at + 6;
-    read_frame(&node[at..end])
+    read_cell(node, FRAMES + f * 6)
 }
 
-pub fn message_at(node: &[u8], m: usize) -> Message
-    requires { (m < 32) × (length node.now ≡ node_size) }
+pub fn message_at(node: &Node, m: usize) -> Message
+    requires { m < 32 }
     ensures { result ≡ message_at (layout_of node.now) m }
 {
-    let at = 195 + m * 16;
-    let end = at + 16;
-    read_message(&node[at..end])
+    read_cell(node, MESSAGES + m * 16)
 }
 
 // What the layout says of a field.
-pub fn laid_at(node: &[u8], d: usize) -> record::Field
-    requires { (d < 128) × (length node.now ≡ node_size) }
+pub fn laid_at(node: &Node, d: usize) -> record::Field
+    requires { d < 128 }
     ensures { result ≡ laid_at (layout_of node.now) d }
 {
-    let at = 707 + d * 5;
-    let end = at + 5;
-    read_laid(&node[at..end])
+    read_cell(node, FIELDS + d * 5)
 }
 
 // The number of the field at a place of the index.
-pub fn listed_at(node: &[u8], i: usize) -> u8
-    requires { (i < 128) × (length node.now ≡ node_size) }
+pub fn listed_at(node: &Node, i: usize) -> u8
+    requires { i < 128 }
     ensures { result ≡ listed_at (layout_of node.now) i }
 {
-    node[1347 + i]
+    node[INDEX + i]
 }
 
 // ---- reading the state
 
-// Whether a frame was delivered this round: any byte but 0.
-pub fn mark_at(node: &[u8], f: usize) -> u8
-    requires { (f < 32) × (length node.now ≡ node_size) }
+// Whether a frame was delivered this round: any byte but 0. The byte and no truth value, since `same_memory` needs it back.
+pub fn mark_at(node: &Node, f: usize) -> u8
+    requires { f < 32 }
     ensures { result ≡ (delivery_at (state_of node.now) f).delivered }
 {
-    node[1475 + f * 33]
+    node[DELIVERIES + f * 33]
 }
 
 // How many of a frame's 32 bytes of room are data.
 pub fn data_length(h: Frame) -> usize
     ensures { result ≡ min h.length 32 }
 {
-    at_most(h.length, 32)
+    (h.length as usize).min(32)
 }
 
 // The data of a frame, where they lie.
-pub fn data_at(node: &[u8], f: usize) -> &[u8]
-    requires { (f < 32) × (length node.now ≡ node_size) }
+pub fn data_at(node: &Node, f: usize) -> &[u8]
+    requires { f < 32 }
     ensures { result.now ≡ data_at (node_of node.now) f }
 {
-    let from = 1475 + f * 33 + 1;
-    let end = from + at_most(node[3 + f * 6], 32);
+    let from = DELIVERIES + f * 33 + 1;
+    let end = from + (node[FRAMES + f * 6] as usize).min(32);
     &node[from..end]
 }
 
 // The room that they lie in and the eight bytes behind it, so that eight bytes can be read from any byte of the data on.
-pub fn room_at(node: &[u8], f: usize) -> &[u8]
-    requires { (f < 32) × (length node.now ≡ node_size) }
+pub fn room_at(node: &Node, f: usize) -> &[u8]
+    requires { f < 32 }
     ensures { result.now ≡ room_of node.now f }
 {
-    let from = 1475 + f * 33 + 1;
+    let from = DELIVERIES + f * 33 + 1;
     let end = from + 40;
     &node[from..end]
 }
 
-pub fn state_at(node: &[u8], m: usize) -> MessageState
-    requires { (m < 32) × (length node.now ≡ node_size) }
+pub fn state_at(node: &Node, m: usize) -> MessageState
+    requires { m < 32 }
     ensures { result ≡ state_at (state_of node.now) m }
 {
-    let at = 2531 + m * 6;
-    let end = at + 6;
-    read_state(&node[at..end])
+    read_cell(node, STATES + m * 6)
 }
 
 // A field with its stage.
-pub fn field_at(node: &[u8], d: usize) -> Field
-    requires { (d < 128) × (length node.now ≡ node_size) }
+pub fn field_at(node: &Node, d: usize) -> Field
+    requires { d < 128 }
     ensures { result ≡ field_at (node_of node.now) d }
 {
-    let x = laid_at(node, d);
     Field {
-        message: x.message,
-        frame: x.frame,
-        start: x.start,
-        status: x.status,
-        place: x.place,
-        stage: stage_of(node[2723 + d]),
+        laid: laid_at(node, d),
+        stage: node[STAGES + d].into(),
     }
 }
 
 // ---- writing the state
 
-// Whether a frame was delivered this round.
-pub fn put_mark(node: &mut [u8], f: usize, k: u8)
-    requires { (f < 32) × (length node.old ≡ node_size) }
+// Whether a frame was delivered this round: any byte, as `mark_at` answers it, and so `marked` takes it.
+pub fn put_mark(node: &mut Node, f: usize, k: u8)
+    requires { f < 32 }
     ensures { node_of node.new ≡ node_with (node_of node.old) (with_delivery (state_of node.old) f (marked k (delivery_at (state_of node.old) f))) }
 {
-    node[1475 + f * 33] = k;
+    node[DELIVERIES + f * 33] = k;
 }
 
+// Not the library's `copy_from_slice`: where the length varies it calls memmove, and an archive needs no more of a C library than memset.
+// And by number: of what a `zip` over `iter_mut` writes the library says nothing.
 fn copy(to: &mut [u8], from: &[u8])
-    requires { length from.now ≤ length to.old }
-    ensures { to.new ≡ paste to.old 0 from.now (length from.now) }
+    requires { length from.now ≡ length to.old }
+    ensures { to.new ≡ from.now }
 {
-    for k in 0..from.len() {
-        to[k] = from[k];
+    for (k, &byte) in from.iter().enumerate() {
+        to[k] = byte;
     }
 }
 
 // A delivery's data over those of the frame.
-pub fn put_data(node: &mut [u8], f: usize, bytes: &[u8])
-    requires { (f < 32) × (length bytes.now ≤ 32) × (length node.old ≡ node_size) }
+pub fn put_data(node: &mut Node, f: usize, bytes: &[u8])
+    requires { (f < 32) × (length bytes.now ≤ 32) }
     ensures { node_of node.new ≡ node_with (node_of node.old) (with_delivery (state_of node.old) f (filled (delivery_at (state_of node.old) f) bytes.now)) }
 {
-    let at = 1475 + f * 33 + 1;
-    let end = at + 32;
+    let at = DELIVERIES + f * 33 + 1;
+    let end = at + bytes.len();
     copy(&mut node[at..end], bytes);
 }
 
+// Not the library's `fill`: it writes the last byte apart, which takes each close twelve instructions more.
 fn fill(c: &mut [u8], k: u8)
     ensures { c.new ≡ replicate (length c.old) k }
 {
-    for i in 0..c.len() {
-        c[i] = k;
+    for x in c {
+        *x = k;
     }
 }
 
 // The first n frames' deliveries. Their data go too, so that of two nodes one cannot tell what an earlier round brought.
-pub fn forget_deliveries(node: &mut [u8], n: usize)
-    requires { (n ≤ 32) × (length node.old ≡ node_size) }
+pub fn forget_deliveries(node: &mut Node, n: usize)
+    requires { n ≤ 32 }
     ensures { node_of node.new ≡ node_with (node_of node.old) (with_deliveries (state_of node.old) (replicate n no_delivery ++ drop n (state_of node.old).deliveries)) }
 {
-    let end = 1475 + n * 33;
-    fill(&mut node[1475..end], 0);
+    let end = DELIVERIES + n * 33;
+    fill(&mut node[DELIVERIES..end], 0);
 }
 
-pub fn put_state(node: &mut [u8], m: usize, s: MessageState)
-    requires { (m < 32) × (length node.old ≡ node_size) }
+pub fn put_state(node: &mut Node, m: usize, s: MessageState)
+    requires { m < 32 }
     ensures { node_of node.new ≡ node_with (node_of node.old) (with_state (state_of node.old) m s) }
 {
-    let at = 2531 + m * 6;
-    let end = at + 6;
-    write_state(&mut node[at..end], s);
+    write_cell(node, STATES + m * 6, s);
 }
 
-pub fn put_stage(node: &mut [u8], d: usize, s: Stage)
-    requires { (d < 128) × (StoredStage s) × (length node.old ≡ node_size) }
+pub fn put_stage(node: &mut Node, d: usize, s: Stage)
+    requires { (d < 128) × (StoredStage s) }
     ensures { node_of node.new ≡ node_with (node_of node.old) (with_stage (state_of node.old) d s) }
 {
-    node[2723 + d] = code_of(s);
+    node[STAGES + d] = s.into();
 }
 
 // ---- writing the layout
 
 // No frames, messages or fields, whatever the memory held.
-pub fn clear(node: &mut [u8])
-    requires { length node.old ≡ node_size }
+pub fn clear(node: &mut Node)
     ensures { node_of node.new ≡ empty_node }
 {
-    fill(&mut node[0..2723], 0);
-    fill(&mut node[2723..2851], 2);
+    fill(&mut node[..STAGES], 0);
+    fill(&mut node[STAGES..], 2);
 }
 
-pub fn put_counts(node: &mut [u8], frames: u8, messages: u8, fields: u8)
-    requires { length node.old ≡ node_size }
+pub fn put_counts(node: &mut Node, frames: u8, messages: u8, fields: u8)
     ensures { node_of node.new ≡ record { layout = with_numbers (layout_of node.old) frames messages fields; state = state_of node.old } }
 {
     node[0] = frames;
@@ -510,36 +612,30 @@ pub fn put_counts(node: &mut [u8], frames: u8, messages: u8, fields: u8)
     node[2] = fields;
 }
 
-pub fn put_frame(node: &mut [u8], f: usize, h: Frame)
-    requires { (f < 32) × (length node.old ≡ node_size) }
+pub fn put_frame(node: &mut Node, f: usize, h: Frame)
+    requires { f < 32 }
     ensures { node_of node.new ≡ record { layout = with_frame (layout_of node.old) f h; state = state_of node.old } }
 {
-    let at = 3 + f * 6;
-    let end = at + 6;
-    write_frame(&mut node[at..end], h);
+    write_cell(node, FRAMES + f * 6, h);
 }
 
-pub fn put_message(node: &mut [u8], m: usize, g: Message)
-    requires { (m < 32) × (length node.old ≡ node_size) }
+pub fn put_message(node: &mut Node, m: usize, g: Message)
+    requires { m < 32 }
     ensures { node_of node.new ≡ record { layout = with_message (layout_of node.old) m g; state = state_of node.old } }
 {
-    let at = 195 + m * 16;
-    let end = at + 16;
-    write_message(&mut node[at..end], g);
+    write_cell(node, MESSAGES + m * 16, g);
 }
 
-pub fn put_laid(node: &mut [u8], d: usize, x: record::Field)
-    requires { (d < 128) × (length node.old ≡ node_size) }
+pub fn put_laid(node: &mut Node, d: usize, x: record::Field)
+    requires { d < 128 }
     ensures { node_of node.new ≡ record { layout = with_laid (layout_of node.old) d x; state = state_of node.old } }
 {
-    let at = 707 + d * 5;
-    let end = at + 5;
-    write_laid(&mut node[at..end], x);
+    write_cell(node, FIELDS + d * 5, x);
 }
 
-pub fn put_listed(node: &mut [u8], i: usize, d: u8)
-    requires { (i < 128) × (length node.old ≡ node_size) }
+pub fn put_listed(node: &mut Node, i: usize, d: u8)
+    requires { i < 128 }
     ensures { node_of node.new ≡ record { layout = with_listed (layout_of node.old) i d; state = state_of node.old } }
 {
-    node[1347 + i] = d;
+    node[INDEX + i] = d;
 }

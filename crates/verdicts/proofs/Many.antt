@@ -11,20 +11,19 @@ use Rattle.record.specs.Numbers.{tally, any_below, least_below, one_of}
 use Rattle.record.specs.Records.{byte_at, record_bytes, word_at, is_frame, is_message, is_field, frame_at, message_at, field_at, pair_below}
 use Rattle.record.specs.Runs.{past_end, meet, clash}
 use Rattle.ranges.specs.Ranges.{wrong_if, word_fits, word_finding, frame_finding, message_finding, field_finding, finding_of, finding_at, wrong_at}
-use Rattle.ranges.specs.Ranges.{lowest_fault, range_fault, is_fault}
-use Rattle.ranges.specs.declared.RangeFault.{RangeFault}
-use Rattle.layout.specs.Counts.{counts_before}
+use Rattle.ranges.specs.Ranges.{RecordFinding, lowest_fault, range_fault, is_fault}
+use Rattle.std.specs.Prelude.{Ok, Err}
+use Rattle.layout.specs.Counts.{counts, counts_before}
 use Rattle.layout.specs.Verdict.{size_fault, order_fault, ref_fault, is_field_of, unlike, group_fault, clash_at, place_fault, fails, refusal_of}
-use Rattle.layout.specs.Verdict.{no_field, complete, fails_at, refusal_at, judged, verdict}
+use Rattle.layout.specs.Verdict.{no_field, complete, fails_at, refused_at, refusal_at, judged, verdict}
 use Rattle.layout.specs.declared.Counts.{Counts}
 use Rattle.layout.specs.declared.Refusal.{Refusal}
-use Rattle.layout.specs.declared.Verdict.{Verdict}
 use Rattle.record.proofs.Searches.{any_same}
 use Rattle.ranges.proofs.Own.{own_range}
 use Rattle.verdicts.specs.Rows.{led, wide, narrow, spread, many}
 
 -- whether record i fails a test, where RANGE looks at the record by itself: through the file the way to each of its bytes is long
-tests : List ℕ → ℕ → Counts → RangeFault → Bool
+tests : List ℕ → ℕ → Counts → RecordFinding → Bool
 tests s i c r = one_of (order_fault s i c ∷ is_fault r ∷ ref_fault s i c ∷ group_fault s i c ∷ place_fault s i c ∷ [])
 
 fails_alone : List ℕ → ℕ → Bool
@@ -67,13 +66,13 @@ unfolding
     past_end meet clash clash_at place_fault record_bytes tests fails_alone
 pass_128 = refl
 
-complete_128 : complete (many 16 128) 152 (counts_before (many 16 128) 152) ≡ Verdict.Accepted 8 16 128
+complete_128 : complete (many 16 128) 152 (counts_before (many 16 128) 152) ≡ Ok (counts 8 16 128)
 unfolding
     many wide narrow spread led
     tally any_below byte_at is_frame is_message is_field field_at counts_before is_field_of no_field complete
 complete_128 = refl
 
-pub fields_128 : verdict (many 16 128) ≡ Verdict.Accepted 8 16 128
+pub fields_128 : verdict (many 16 128) ≡ Ok (counts 8 16 128)
 fields_128 = size_128 ∙ all_pass _ 152 (none_fails _ 152 pass_128) ∙ complete_128
 
 -- 129
@@ -104,7 +103,7 @@ unfolding
     fails fails_at
 fails_129 = refl
 
-group_129 : refusal_at (many 17 129) 153 ≡ Verdict.Refused Refusal.Group 153
+group_129 : refusal_at (many 17 129) 153 ≡ Err (refused_at Refusal.Group 153)
 unfolding
     many wide narrow spread led
     extended is_width extend aside
@@ -115,5 +114,5 @@ unfolding
     refusal_of refusal_at
 group_129 = refl
 
-pub fields_129 : verdict (many 17 129) ≡ Verdict.Refused Refusal.Group 153
+pub fields_129 : verdict (many 17 129) ≡ Err (refused_at Refusal.Group 153)
 fields_129 = size_129 ∙ last_decides _ 153 (none_fails _ 153 before_129) fails_129 ∙ group_129

@@ -1,29 +1,36 @@
--- `agreement::agree` meets its contract: each number's answer is the element at that place, and past the last one there is no result.
+-- `agreement::agree` meets its contract: each agreement's answer is the element at the place of its number, and past the last one there is no result.
 -- Assumes nothing.
-use mathlib.Core.Path.{sym}
+use mathlib.Core.Path.{ap, sym, ◌∙◌}
 use mathlib.Core.List.{[], ◌∷◌}
 use Prim.Native.Nat.{◌≤◌}
-use native.Mathlib.Omega.{arith}
 use lib.ListN.{get_or-eq_default}
-use Rattle.agreement.specs.declared.Agreed.TheVariants.{NoResult}
+use Rattle.std.specs.Prelude.{None}
+use Rattle.agreement.specs.Kinds.{number_of}
 use Rattle.agreement.specs.Agreement.{pick_any, average, vote, agreed}
+use Rattle.agreement.proofs.Turns.{first}
 use Rattle.agreement.proofs.agree.Goals as goal
-
-pub returns-in-0 : goal.returns-in-0
-unfolding agreed
-returns-in-0 c = rw c.in-0.is c.pick_any.ensures
-
-pub returns-in-1 : goal.returns-in-1
-unfolding agreed
-returns-in-1 c = rw c.in-1.is c.mean.ensures
-
-pub returns-in-2 : goal.returns-in-2
-unfolding agreed
-returns-in-2 c = rw c.in-2.is c.voted.ensures
 
 pub returns-in_default : goal.returns-in_default
 unfolding agreed
 returns-in_default c =
     let l = c.args.instances.now in
-    let past : 3 ≤ c.args.agreement = omega arith in
-    sym (get_or-eq_default (pick_any l ∷ average l ∷ vote l ∷ []) NoResult past)
+    let past : 3 ≤ c.args.agreement = c.in_default.ensures in
+    sym (get_or-eq_default (pick_any l ∷ average l ∷ vote l ∷ []) None past)
+
+pub returns-in-PickAny : goal.returns-in-PickAny
+unfolding agreed
+returns-in-PickAny c =
+    let number = ap number_of (sym c.in-PickAny.is) ∙ c.in-Ok.ensures in
+    rw (← number) (c.copied.ensures ∙ c.first.ensures.value ∙ first c.args.instances.now)
+
+pub returns-in-Average : goal.returns-in-Average
+unfolding agreed
+returns-in-Average c =
+    let number = ap number_of (sym c.in-Average.is) ∙ c.in-Ok.ensures in
+    rw (← number) c.mean.ensures
+
+pub returns-in-Vote : goal.returns-in-Vote
+unfolding agreed
+returns-in-Vote c =
+    let number = ap number_of (sym c.in-Vote.is) ∙ c.in-Ok.ensures in
+    rw (← number) c.voted.ensures

@@ -1,51 +1,55 @@
 -- `agreement::agree_floats` meets its contract: pick any and vote are those of whole numbers, on the instances that are left.
 -- Assumes nothing.
 use mathlib.Core.Path.{◌≡◌, refl, ap, sym, ◌∙◌}
-use mathlib.Core.List.{List}
-use Prim.Native.Nat.{ℕ, zero, suc, ◌<◌}
-use native.Mathlib.Omega.{arith}
+use mathlib.Core.List.{List, [], ◌∷◌}
+use Prim.Native.Nat.{ℕ, ◌<◌, ◌≤◌}
 use lib.IntN.{ℤ}
-use lib.ListN.{length}
-use lib.Seq.{length-take-le}
+use lib.ListN.{length, get_or-eq_default}
 use borrow.Author.Tests.{lt-leb}
-use Rattle.agreement.specs.declared.Agreed.TheVariants.{NoResult}
-use Rattle.agreement.specs.Agreement.{agreed}
+use Rattle.std.specs.Prelude.{Option, None, slice_get}
+use Rattle.agreement.specs.Kinds.{number_of}
+use Rattle.agreement.specs.Agreement.{pick_any, vote}
 use Rattle.agreement.specs.Floats.{left_of, float_mean, left_agreed, floats_agreed}
 use Rattle.agreement.proofs.FloatLaws.{of_eight}
+use Rattle.agreement.proofs.Turns.{first}
 use Rattle.agreement.proofs.agree_floats.Goals as goal
 
-too_many : (k : ℕ) (l : List ℤ) → 8 < length l → NoResult ≡ floats_agreed k l
+too_many : (k : ℕ) (l : List ℤ) → 8 < length l → None ≡ floats_agreed k l
 unfolding floats_agreed
 too_many k l h = rw (lt-leb (length l) 8 h) refl
-
-means : (k : ℕ) (l : List ℤ) → k ≡ 1 → left_agreed k l ≡ float_mean l
-unfolding left_agreed
-means k l e = rw e refl
-
--- the lists of the two kinds differ at agreement 1 alone
-others : (k : ℕ) (l : List ℤ) → (k ≡ 1 → ⊥) → left_agreed k l ≡ agreed k l
-unfolding left_agreed agreed
-others zero l ne = refl
-others (suc zero) l ne = absurd (ne refl)
-others (suc (suc zero)) l ne = refl
-others (suc (suc (suc k))) l ne = refl
 
 pub returns-then-instances-gt8 : goal.returns-then-instances-gt8
 returns-then-instances-gt8 c = too_many c.args.agreement c.args.instances.now c.if-instances-gt8.true
 
-pub returns-then-agreement-eq1 : goal.returns-then-agreement-eq1
-returns-then-agreement-eq1 c =
-    let a = c.args in
-    let l = a.instances.now in
-    c.float_mean.ensures ∙ sym (of_eight a.agreement l (omega arith) ∙ means a.agreement (left_of l) c.if-agreement-eq1.true)
+pub returns-in_default : goal.returns-in_default
+unfolding left_agreed
+returns-in_default c =
+    let l = left_of c.args.instances.now in
+    let past : 3 ≤ c.args.agreement = c.in_default.ensures in
+    sym (of_eight c.args.agreement c.args.instances.now c.if-instances-gt8.false ∙ get_or-eq_default (pick_any l ∷ float_mean l ∷ vote l ∷ []) None past)
 
-pub slice_bounds-agree-end : goal.slice_bounds-agree-end
-slice_bounds-agree-end c = sym (length-take-le c.set_aside-n.result _ (omega (arith, c.set_aside-n.ensures)))
+-- the agreement of a number, on at most eight instances
+eighth : (k n : ℕ) (l : List ℤ) (r : Option ℤ) → length l ≤ 8 → k ≡ n → r ≡ left_agreed k (left_of l) → r ≡ floats_agreed n l
+eighth k n l r h e p = p ∙ rw e (sym (of_eight n l h))
 
-pub returns : goal.returns
-returns c =
-    let a = c.args in
-    let l = a.instances.now in
-    c.agree.ensures
-    ∙ ap (agreed a.agreement) c.set_aside-n.ensures.2
-    ∙ sym (of_eight a.agreement l (omega arith) ∙ others a.agreement (left_of l) c.if-agreement-eq1.false)
+pub returns-in-PickAny : goal.returns-in-PickAny
+unfolding left_agreed
+returns-in-PickAny c =
+    let number = ap number_of (sym c.in-PickAny.is) ∙ c.in-Ok.ensures in
+    let l = c.args.instances.now in
+    eighth 0 c.args.agreement l c.copied.result c.if-instances-gt8.false number
+    (c.copied.ensures ∙ c.first.ensures.value ∙ ap (λ m. slice_get m 0) (c.deref.ensures.0 ∙ c.left_of.ensures) ∙ first (left_of l))
+
+pub returns-in-Average : goal.returns-in-Average
+unfolding left_agreed
+returns-in-Average c =
+    let number = ap number_of (sym c.in-Average.is) ∙ c.in-Ok.ensures in
+    eighth 1 c.args.agreement c.args.instances.now c.float_mean.result c.if-instances-gt8.false number c.float_mean.ensures
+
+pub returns-in-Vote : goal.returns-in-Vote
+unfolding left_agreed
+returns-in-Vote c =
+    let number = ap number_of (sym c.in-Vote.is) ∙ c.in-Ok.ensures in
+    let l = c.args.instances.now in
+    eighth 2 c.args.agreement l c.voted.result c.if-instances-gt8.false number
+    (c.voted.ensures ∙ ap vote (c.deref-in-Vote.ensures.0 ∙ c.left_of-in-Vote.ensures))

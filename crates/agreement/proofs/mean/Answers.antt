@@ -12,10 +12,10 @@ use lib.Signed.{quot_z}
 use mir.Syntax.{w64}
 use mir.Val.{SFits, to_z, of_z}
 use mir.ValLaws.{to_z-of_z, to_z_pos}
+use Rattle.std.specs.Prelude.{Some}
 use Rattle.std.proofs.lemmas.Int.{ints}
 use Rattle.whole.specs.Whole.{all_of}
 use Rattle.whole.proofs.Integers.{small_fits, back}
-use Rattle.agreement.specs.declared.Agreed.TheVariants.{Value}
 use Rattle.agreement.specs.Agreement.{sum_of, mean_of, message_value, message_values}
 use Rattle.agreement.proofs.MessageValues.{values_test, values_parts, no_mean, has_mean}
 use Rattle.agreement.proofs.Quotient.{quotient_small}
@@ -32,11 +32,13 @@ decided : (l : List ℤ) (t : Bool) → (ltb (length l) 1 || ltb 8 (length l)) �
 decided l t few e = values_test l ∙ ap (λ b. not b && all_of message_value l) few ∙ sym e
 
 pub returns-then-not-all_values : goal.returns-then-not-all_values
+unfolding all_of
 returns-then-not-all_values c =
     let l = c.args.instances.now in
     no_mean l (decided l c.all_values.result c.if-n.false c.all_values.ensures ∙ c.if-not-all_values.true)
 
 passed : (c : Else-not-all_values) → message_values c.args.instances.now ≡ true
+unfolding all_of
 passed c = decided c.args.instances.now c.all_values.result c.if-n.false c.all_values.ensures ∙ c.if-not-all_values.false
 
 pub sum_of-requires : goal.sum_of-requires
@@ -65,4 +67,4 @@ returns c =
     let read_sum : to_z w64 (of_z w64 s) ≡ s = back s (omega arith) in
     let read_count : to_z w64 (length l) ≡ pos (length l) = to_z_pos w64 (length l) (omega (arith, (values_parts l values).1)) in
     let read = to_z-of_z w64 _ (room s (pos (length l)) small) in
-    ap Value (ap (λ z. to_z w64 (of_z w64 z)) (ap₂ quot_z read_sum read_count) ∙ read ∙ mean_is s l c.sum_of.ensures.0) ∙ has_mean l values
+    ap Some (ap (λ z. to_z w64 (of_z w64 z)) (ap₂ quot_z read_sum read_count) ∙ read ∙ mean_is s l c.sum_of.ensures.0) ∙ has_mean l values

@@ -1,4 +1,4 @@
-use mathlib.Core.Path.{◌≡◌}
+use mathlib.Core.Path.{◌≡◌, ◌∙◌}
 use mathlib.Core.List.{List}
 use mathlib.Core.Logic.{inl, inr}
 use Prim.Native.Nat.{ℕ, ◌<◌}
@@ -11,6 +11,7 @@ use mir.ValLaws.{to_z-of_z}
 use borrow.Author.Rules.{rules}
 use borrow.Author.Rules.{part_to_end}
 use Rattle.agreement.specs.Agreement.{count_of}
+use Rattle.agreement.proofs.Turns.{counted_by}
 use Rattle.agreement.proofs.Counted.{none_counted, more, as_many, fewer, counted_vote}
 use Rattle.agreement.proofs.voted.Goals.{After-count_of-c, then-most-c+then-most-c-2, then-most-c+else-most-c-2, else-most-c}
 use Rattle.agreement.proofs.voted.Goals as goal
@@ -33,7 +34,7 @@ module _ (c : After-count_of-c) where
   read = let fits : SFits w64 v = search rules in to_z-of_z w64 v fits
 
   number : c.count_of-c.result ≡ count_of v (drop i l)
-  number = rw (part_to_end l i, read) at c.count_of-c.ensures
+  number = rw (part_to_end l i, read) at c.count_of-c.ensures ∙ counted_by v (drop i l)
 
 pub loop-i-preserved : goal.loop-i-preserved
 loop-i-preserved c =

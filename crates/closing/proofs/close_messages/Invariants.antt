@@ -3,13 +3,12 @@
 -- Assumes nothing.
 use mathlib.Core.Path.{◌≡◌}
 use Prim.Native.Nat.{◌-◌}
-use lib.ListN.{length}
-use Rattle.store.specs.Node.{node_size, layout_of, node_of, message_count}
+use Rattle.store.specs.Node.{layout_of, node_of, message_count}
 use Rattle.closing.proofs.Rounds.{closed_to}
 use Rattle.closing.proofs.close_messages.Given as goal
 
 abbrev pub invariant-loop-m : goal.invariant-loop-m
-invariant-loop-m l = (l.messages ≡ message_count (layout_of l.initial.node)) × (length l.node ≡ node_size) × (node_of l.node ≡ closed_to (node_of l.initial.node) l.m)
+invariant-loop-m l = (l.messages ≡ message_count (layout_of l.initial.node)) × (node_of l.node ≡ closed_to (node_of l.initial.node) l.m)
 
 abbrev pub decreases-loop-m : goal.decreases-loop-m
 decreases-loop-m l = l.messages - l.m

@@ -2,6 +2,7 @@
 use mathlib.Core.Path.{refl}
 use native.Mathlib.Omega.{arith}
 use lib.ListN.{get_or-eq_default}
+use borrow.Author.Tests.{le-ltb}
 use Rattle.store.specs.Node.{state_of, no_delivery}
 use Rattle.store.proofs.Laws.{deliveries_length}
 use Rattle.closing.specs.Closing.{came}
@@ -11,9 +12,9 @@ pub returns-then-x-lt32 : goal.returns-then-x-lt32
 unfolding came
 returns-then-x-lt32 c = rw c.mark_at.ensures refl
 
-pub returns : goal.returns
+pub returns-else-x-lt32 : goal.returns-else-x-lt32
 unfolding came
-returns c =
+returns-else-x-lt32 c =
     let a = c.args in
     let b = a.node.now in
-    rw (get_or-eq_default (state_of b).deliveries no_delivery {n = a.x.frame} (omega (arith, deliveries_length b))) refl
+    rw (le-ltb a.x.frame 32 (omega arith), get_or-eq_default (state_of b).deliveries no_delivery {n = a.x.frame} (omega (arith, deliveries_length b))) refl

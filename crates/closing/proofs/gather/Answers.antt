@@ -1,119 +1,141 @@
-use mathlib.Core.Path.{ap, ap₂, sym, ◌∙◌}
-use mathlib.Core.List.{List, ◌++◌, append-nil}
-use Prim.Native.Nat.{◌<◌}
+use mathlib.Core.Path.{refl, ap, ap₂, sym, ◌∙◌}
+use mathlib.Core.List.{List, [], ◌∷◌, ◌++◌, map, append_assoc}
+use Prim.Native.Nat.{◌+◌, ◌≤◌}
 use native.Mathlib.Omega.{arith}
 use lib.IntN.{ℤ}
-use lib.ListN.{take, length-set}
+use lib.ListN.{length-append}
 use mir.Syntax.{w64}
 use mir.ValLaws.{to_z-of_z}
-use borrow.Author.Rules.{rules}
-use Rattle.whole.proofs.Loops.{taken_more}
-use Rattle.store.specs.Node.{state_of, node_of}
-use Rattle.own.specs.declared.Places.{Places}
-use Rattle.closing.specs.Closing.{came, status_set, value_in}
-use Rattle.own.proofs.Ahead.{inside}
-use Rattle.closing.proofs.Rounds.{came_known, instances_begin, instances_turn, instances_unset, instances_absent, instances_other, instances_end, none_begin, none_turn, none_absent, none_other, none_end}
-use Rattle.closing.proofs.gather.Goals.{then-owns+then-did_come+then-is_status_set, then-owns+then-did_come+else-is_status_set, then-owns+else-did_come, else-owns}
+use Rattle.store.specs.Node.{layout_of, node_of, laid_at}
+use Rattle.own.specs.declared.Owner.{Owner}
+use Rattle.own.specs.Own.{end_place}
+use Rattle.own.proofs.Ahead.{first_ahead, last_ahead, here_ahead, own_ahead, other_ahead, fields_ahead, cells_few}
+use Rattle.closing.specs.Closing.{value_in}
+use Rattle.closing.proofs.Rounds.{came_known, gather_begin, gather_end, counts_turn, unset_turn, absent_turn, none_turn, none_absent}
 use Rattle.closing.proofs.gather.Goals as goal
 
 pub loop-i-init : goal.loop-i-init
 loop-i-init c =
-    let n = node_of c.args.node.now in
-    let from = ap (λ (p : Places). p.from) c.places_of-own.ensures.0 in (
-      from,
-      ap (λ (p : Places). p.end) c.places_of-own.ensures.0,
-      search rules,
-      search rules,
-      c.requires.1,
-      rw from (instances_begin n c.args.message),
-      rw from (none_begin n c.args.message),
-    )
-
-pub owns-requires : goal.owns-requires
-owns-requires c = (c.cell_at-d.ensures.1, search rules)
-
-pub laid_at-x-requires : goal.laid_at-x-requires
-laid_at-x-requires c = (inside _ _ c.owns.ensures c.if-owns.true, search rules)
+    let l = layout_of c.args.node.now in
+    let o = Owner.Message c.args.message in
+    let places = c.into_iter-i-iterator.ensures.into_iter_gives ∙ c.places_of-i-items.ensures.0 in
+    let (counting, none) = gather_begin (node_of c.args.node.now) c.args.message in
+    rw (places, c.requires.1, first_ahead l o) (refl, omega (arith, cells_few l c.args.message), counting, none)
 
 pub is_status_set-requires : goal.is_status_set-requires
-is_status_set-requires c = (came_known _ _ (sym c.did_come.ensures ∙ c.if-did_come.true), search rules)
+is_status_set-requires c = came_known _ _ (sym c.did_come.ensures ∙ c.if-did_come.true)
 
 pub value_in-requires : goal.value_in-requires
-value_in-requires c = (came_known _ _ (sym c.did_come.ensures ∙ c.if-did_come.true), search rules)
+value_in-requires c = came_known _ _ (sym c.did_come.ensures ∙ c.if-did_come.true)
+
+pub push-requires : goal.push-requires
+push-requires c =
+    let node = node_of c.args.node.now in
+    let l = layout_of c.args.node.now in
+    let m = c.args.message in
+    let o = Owner.Message m in
+    let start = c.loop-i.i-iterator.start in
+    let (end, (some, first, on)) = c.in-Some.ensures.steps in
+    let here = here_ahead l o some c.loop-i.invariant.0 in
+    let told = rw first at c.cell_at-d.ensures.0 in
+    let few = rw (own_ahead l o start here told c.owns.ensures c.if-owns.true) at c.loop-i.invariant.1 in
+    omega (arith, few)
+
+pub loop-i-preserved-then-is_status_set : goal.loop-i-preserved-then-is_status_set
+loop-i-preserved-then-is_status_set c =
+    let node = node_of c.args.node.now in
+    let l = layout_of c.args.node.now in
+    let m = c.args.message in
+    let o = Owner.Message m in
+    let start = c.loop-i.i-iterator.start in
+    let (end, (some, first, on)) = c.in-Some.ensures.steps in
+    let here = here_ahead l o some c.loop-i.invariant.0 in
+    let told = rw first at c.cell_at-d.ensures.0 in
+    let mine = own_ahead l o start here told c.owns.ensures c.if-owns.true in
+    let rest = fields_ahead l o (start + 1) in
+    let x = laid_at l c.cell_at-d.result in
+    let few = rw mine at c.loop-i.invariant.1 in
+    let so_far = rw mine at c.loop-i.invariant.2 in
+    let none = rw mine at c.loop-i.invariant.3 in
+    let came = rw c.laid_at-x.ensures at (sym c.did_come.ensures ∙ c.if-did_come.true) in
+    let set = rw c.laid_at-x.ensures at (sym c.is_status_set.ensures ∙ c.if-is_status_set.true) in
+    let value = c.value_in.ensures ∙ ap₂ (value_in node) c.message_at-g.ensures c.laid_at-x.ensures in
+    let back = to_z-of_z w64 c.value_in.result (record { sfits = c.value_in.type_inv }) in
+    let taken = c.loop-i.values.items in
+    rw (end, on, c.push.ensures.items, back) (
+      c.loop-i.invariant.0,
+      rw length-append (omega (arith, few)),
+      so_far ∙ ap (λ (r : List ℤ). taken ++ r) (counts_turn node m x rest came set) ∙ rw (← value) (sym (append_assoc taken (c.value_in.result ∷ []) _)),
+      none ∙ none_turn node m x rest c.loop-i.none came,
+    )
+
+pub loop-i-preserved-else-is_status_set : goal.loop-i-preserved-else-is_status_set
+loop-i-preserved-else-is_status_set c =
+    let node = node_of c.args.node.now in
+    let l = layout_of c.args.node.now in
+    let m = c.args.message in
+    let o = Owner.Message m in
+    let start = c.loop-i.i-iterator.start in
+    let (end, (some, first, on)) = c.in-Some.ensures.steps in
+    let here = here_ahead l o some c.loop-i.invariant.0 in
+    let told = rw first at c.cell_at-d.ensures.0 in
+    let mine = own_ahead l o start here told c.owns.ensures c.if-owns.true in
+    let rest = fields_ahead l o (start + 1) in
+    let x = laid_at l c.cell_at-d.result in
+    let few = rw mine at c.loop-i.invariant.1 in
+    let so_far = rw mine at c.loop-i.invariant.2 in
+    let none = rw mine at c.loop-i.invariant.3 in
+    let came = rw c.laid_at-x.ensures at (sym c.did_come.ensures ∙ c.if-did_come.true) in
+    let unset = rw c.laid_at-x.ensures at (sym c.is_status_set.ensures ∙ c.if-is_status_set.false) in
+    rw (end, on) (
+      c.loop-i.invariant.0,
+      omega (arith, few),
+      so_far ∙ ap (λ (r : List ℤ). c.loop-i.values.items ++ r) (unset_turn node m x rest came unset),
+      none ∙ none_turn node m x rest c.loop-i.none came,
+    )
+
+pub loop-i-preserved-else-did_come : goal.loop-i-preserved-else-did_come
+loop-i-preserved-else-did_come c =
+    let node = node_of c.args.node.now in
+    let l = layout_of c.args.node.now in
+    let m = c.args.message in
+    let o = Owner.Message m in
+    let start = c.loop-i.i-iterator.start in
+    let (end, (some, first, on)) = c.in-Some.ensures.steps in
+    let here = here_ahead l o some c.loop-i.invariant.0 in
+    let told = rw first at c.cell_at-d.ensures.0 in
+    let mine = own_ahead l o start here told c.owns.ensures c.if-owns.true in
+    let rest = fields_ahead l o (start + 1) in
+    let x = laid_at l c.cell_at-d.result in
+    let few = rw mine at c.loop-i.invariant.1 in
+    let so_far = rw mine at c.loop-i.invariant.2 in
+    let none = rw mine at c.loop-i.invariant.3 in
+    let away = rw c.laid_at-x.ensures at (sym c.did_come.ensures ∙ c.if-did_come.false) in
+    rw (end, on) (
+      c.loop-i.invariant.0,
+      omega (arith, few),
+      so_far ∙ ap (λ (r : List ℤ). c.loop-i.values.items ++ r) (absent_turn node m x rest away),
+      none ∙ none_absent node m x rest c.loop-i.none away,
+    )
 
 pub loop-i-preserved : goal.loop-i-preserved
 loop-i-preserved c =
-    let args = c.args in
-    let b = args.node.now in
-    let node = node_of b in
-    let m = args.message in
-    let i = c.loop-i.i in
-    let l = c.loop-i.values in
-    let n = c.loop-i.number in
-    let none = c.loop-i.none in
-    let room : n < 8 = omega arith in
-    let inv = c.loop-i.invariant in
-    let cell = c.cell_at-d.ensures.0 in
-    let mine = c.owns.ensures in
-    elim c.if-owns.branch [
-      | then-owns+then-did_come+then-is_status_set w ↦
-          let here = sym (w.did_come.ensures ∙ ap (came (state_of b)) w.laid_at-x.ensures) ∙ w.if-did_come.true in
-          let set = sym (w.is_status_set.ensures ∙ ap (status_set node) w.laid_at-x.ensures) ∙ w.if-is_status_set.true in
-          let value = w.value_in.ensures ∙ ap₂ (value_in node) c.message_at-g.ensures w.laid_at-x.ensures in
-          let back = to_z-of_z w64 w.value_in.result (record { sfits = w.value_in.type_inv }) in
-          rw (w.values-is, w.number-is, w.none-is, back) (
-            inv.0,
-            inv.1,
-            search rules,
-            search rules,
-            length-set l n w.value_in.result ∙ inv.4,
-            inv.5
-                ∙ ap (λ (r : List ℤ). take n l ++ r) (instances_turn node m i (omega arith) cell mine w.if-owns.true here set)
-                ∙ rw (← value) (taken_more l n w.value_in.result _ (omega arith)),
-            inv.6 ∙ none_turn node m i (omega arith) cell mine none w.if-owns.true here,
-          )
-      | then-owns+then-did_come+else-is_status_set w ↦
-          let here = sym (w.did_come.ensures ∙ ap (came (state_of b)) w.laid_at-x.ensures) ∙ w.if-did_come.true in
-          let unset = sym (w.is_status_set.ensures ∙ ap (status_set node) w.laid_at-x.ensures) ∙ w.if-is_status_set.false in
-          rw (w.values-is, w.number-is, w.none-is) (
-            inv.0,
-            inv.1,
-            search rules,
-            search rules,
-            inv.4,
-            inv.5 ∙ ap (λ (r : List ℤ). take n l ++ r) (instances_unset node m i (omega arith) cell mine w.if-owns.true here unset),
-            inv.6 ∙ none_turn node m i (omega arith) cell mine none w.if-owns.true here,
-          )
-      | then-owns+else-did_come w ↦
-          let away = sym (w.did_come.ensures ∙ ap (came (state_of b)) w.laid_at-x.ensures) ∙ w.if-did_come.false in
-          rw (w.values-is, w.number-is, w.none-is) (
-            inv.0,
-            inv.1,
-            search rules,
-            search rules,
-            inv.4,
-            inv.5 ∙ ap (λ (r : List ℤ). take n l ++ r) (instances_absent node m i (omega arith) cell mine w.if-owns.true away),
-            inv.6 ∙ none_absent node m i (omega arith) cell mine none w.if-owns.true away,
-          )
-      | else-owns w ↦
-          rw (w.values-is, w.number-is, w.none-is) (
-            inv.0,
-            inv.1,
-            search rules,
-            search rules,
-            inv.4,
-            inv.5 ∙ ap (λ (r : List ℤ). take n l ++ r) (instances_other node m i (omega arith) cell mine w.if-owns.false),
-            inv.6 ∙ none_other node m i (omega arith) cell mine none w.if-owns.false,
-          )
-    ]
+    let node = node_of c.args.node.now in
+    let l = layout_of c.args.node.now in
+    let m = c.args.message in
+    let o = Owner.Message m in
+    let start = c.loop-i.i-iterator.start in
+    let (end, (some, first, on)) = c.in-Some.ensures.steps in
+    let here = here_ahead l o some c.loop-i.invariant.0 in
+    let told = rw first at c.cell_at-d.ensures.0 in
+    let others = other_ahead l o start here told c.owns.ensures c.if-owns.false in
+    rw (end, on) (c.loop-i.invariant.0, rw others at c.loop-i.invariant.1, rw others at c.loop-i.invariant.2, rw others at c.loop-i.invariant.3)
 
 pub returns : goal.returns
 returns c =
-    let args = c.args in
-    let node = node_of args.node.now in
-    let none = instances_end node args.message c.loop-i.i (omega arith) in (
-      search rules,
-      c.loop-i.invariant.4,
-      sym (rw (none, append-nil) at c.loop-i.invariant.5),
-      sym (c.loop-i.invariant.6 ∙ none_end node args.message c.loop-i.i c.loop-i.none (omega arith)),
-    )
+    let l = layout_of c.args.node.now in
+    let o = Owner.Message c.args.message in
+    let (end, (none, on)) = c.in-None.ensures.steps in
+    let past : end_place l o ≤ c.loop-i.i-iterator.start = omega (arith, none, c.loop-i.invariant.0) in
+    gather_end (node_of c.args.node.now) c.args.message (ap (map (laid_at l)) (last_ahead l o c.loop-i.i-iterator.start past)) c.loop-i.invariant.2
+    c.loop-i.invariant.3

@@ -18,7 +18,7 @@ use Rattle.closing.proofs.value_in.Goals as goal
 
 pub unpack_in-pattern-requires : goal.unpack_in-pattern-requires
 unpack_in-pattern-requires c =
-    let size = ap length c.room_at.ensures ∙ room_length c.args.node.now c.requires.1 _ c.requires.0 in
+    let size = ap length c.room_at.ensures ∙ room_length c.args.node.now c.told-node _ c.requires in
     omega (arith, size, c.data_length-n.ensures)
 
 -- the data are the first n bytes of the c
@@ -39,11 +39,12 @@ returns c =
     c.data_length-n.ensures ∙ ap (λ (h : Frame). min h.length 32) c.frame_at-h.ensures
     in
     let few : n ≤ 32 = omega arith in
-    let size = ap length lent ∙ room_length b c.requires.1 f c.requires.0 in
-    let front = ap₂ take cut lent ∙ data_in_room b c.requires.1 f c.requires.0 in
+    let size = ap length lent ∙ room_length b c.told-node f c.requires in
+    let front = ap₂ take cut lent ∙ data_in_room b c.told-node f c.requires in
     rw (
       in_room (data_at (node_of b) f) _ n _ c.args.x.start c.args.g.width size few front,
       ← c.frame_at-h.ensures,
+      ← c.is_big.ensures,
       ← c.unpack_in-pattern.ensures,
     )
-    (to_z-of_z w64 c.value_of.result (record { sfits = c.value_of.type_inv }) ∙ c.value_of.ensures)
+    (rw c.is_signed.ensures at (to_z-of_z w64 c.value_of.result (record { sfits = c.value_of.type_inv }) ∙ c.value_of.ensures))

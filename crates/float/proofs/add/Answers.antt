@@ -4,7 +4,9 @@ use mathlib.Core.Path.{◌≡◌, refl, ap, sym, ◌∙◌}
 use mathlib.Core.Bool.{Bool, true, false, ◌||◌, true≢false}
 use Prim.Native.Nat.{ℕ, ◌+◌, ◌<◌}
 use native.Mathlib.Omega.{arith}
-use lib.Dec.{leb}
+use lib.Dec.{T, leb}
+use lib.Ieee.{binary32, fits}
+use borrow.Author.Rules.{rules}
 use borrow.Author.Tests.{leb-false}
 use Rattle.float.specs.Patterns.{aside}
 use Rattle.float.specs.Running.{running_of, more}
@@ -44,4 +46,5 @@ unfolding running_of more
 returns c =
     let a = c.args in
     let t = taken_in (goal.at.returns c).Else-is_aside-s in
-    rw (t.0, t.1, plus_is a.s.sum a.x c.struct_known-3-1.given.0 t.0) refl
+    let fit : T (fits binary32 a.s.sum) = search rules in
+    rw (t.0, t.1, plus_is a.s.sum a.x fit t.0) refl

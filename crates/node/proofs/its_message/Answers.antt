@@ -6,9 +6,6 @@ use Rattle.store.specs.Node.{layout_of, no_message}
 use Rattle.store.proofs.Laws.{messages_length}
 use Rattle.node.proofs.its_message.Goals as goal
 
-pub returns-then-x-lt32 : goal.returns-then-x-lt32
-returns-then-x-lt32 c = c.message_at.ensures
-
 pub returns : goal.returns
 returns c =
     let b = c.args.node.now in

@@ -6,9 +6,6 @@ use Rattle.store.specs.Node.{state_of, no_state}
 use Rattle.store.proofs.Laws.{states_length}
 use Rattle.node.proofs.its_state.Goals as goal
 
-pub returns-then-x-lt32 : goal.returns-then-x-lt32
-returns-then-x-lt32 c = c.state_at.ensures
-
 pub returns : goal.returns
 returns c =
     let b = c.args.node.now in

@@ -4,12 +4,10 @@
 -- Assumes nothing.
 use mathlib.Core.Path.{◌≡◌}
 use mathlib.Core.List.{map}
-use Prim.Native.Nat.{◌-◌}
-use lib.ListN.{length}
-use Rattle.store.specs.Node.{node_size, layout_of, node_of, laid_at, node_with}
+use Rattle.store.specs.Node.{layout_of, node_of, laid_at, node_with}
 use Rattle.message.specs.declared.Change.{Change}
 use Rattle.own.specs.declared.Owner.{Owner}
-use Rattle.own.specs.Own.{fields_of}
+use Rattle.own.specs.Own.{end_place, fields_of}
 use Rattle.node.specs.Calls.{moved, written}
 use Rattle.own.proofs.Ahead.{ahead}
 use Rattle.node.proofs.Turns.{moved_ahead}
@@ -17,11 +15,8 @@ use Rattle.node.proofs.load_fields.Given as goal
 
 abbrev pub invariant-loop-i : goal.invariant-loop-i
 invariant-loop-i l =
-    (length l.node ≡ node_size) × (length l.buffer ≡ length l.initial.buffer)
-    × (node_with (node_of l.node) (moved_ahead Change.Load (Owner.Frame l.frame) (node_of l.node) l.i)
+    (l.i-iterator.end ≡ end_place (layout_of l.initial.node) (Owner.Frame l.frame))
+    × (node_with (node_of l.node) (moved_ahead Change.Load (Owner.Frame l.frame) (node_of l.node) l.i-iterator.start)
     ≡ node_with (node_of l.initial.node) (moved Change.Load (Owner.Frame l.frame) (node_of l.initial.node)))
-    × (written (node_of l.initial.node) l.h (map (laid_at (layout_of l.initial.node)) (ahead (layout_of l.initial.node) (Owner.Frame l.frame) l.i)) l.buffer
+    × (written (node_of l.initial.node) l.h (map (laid_at (layout_of l.initial.node)) (ahead (layout_of l.initial.node) (Owner.Frame l.frame) l.i-iterator.start)) l.buffer
     ≡ written (node_of l.initial.node) l.h (fields_of (layout_of l.initial.node) (Owner.Frame l.frame)) l.initial.buffer)
-
-abbrev pub decreases-loop-i : goal.decreases-loop-i
-decreases-loop-i l = l.end - l.i

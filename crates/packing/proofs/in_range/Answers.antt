@@ -1,23 +1,21 @@
--- `packing::in_range` meets its contract: the width is tested as `is_width` says, half of the largest unsigned value is the greatest signed one,
--- and `!` of it, one less than its negative, the least.
+-- `packing::in_range` meets its contract: half of the largest unsigned value is the greatest signed one, and `!` of it, one less than its negative,
+-- the least.
 -- Assumes nothing.
 use borrow.Author.Rules.{rules}
 use mathlib.Core.Path.{◌≡◌}
 use mathlib.Core.Bool.{true, false, ◌&&◌}
 use Prim.Native.Nat.{ℕ, ◌-◌, ◌^◌}
 use native.Mathlib.Omega.{arith}
-use lib.Dec.{leb}
 use lib.IntN.{ℤ, pos}
 use lib.Pow.{pow_pos}
 use lib.Signed.{le_z}
-use borrow.Author.Tests.{not-true, not-false}
 use mir.Syntax.{w64}
 use mir.Val.{SFits, to_z}
 use mir.ValLaws.{to_z-of_z, to_z_pos}
 use Rattle.packing.specs.Values.{is_width, least, greatest, in_range}
 use Rattle.packing.proofs.Negation.{not_pos}
 use Rattle.packing.proofs.Values.{width_bounds, half_power, least_signed}
-use Rattle.packing.proofs.in_range.Goals.{Else-not-width}
+use Rattle.packing.proofs.in_range.Goals.{Else-not-contains}
 use Rattle.packing.proofs.in_range.Goals as goal
 
 -- the code's two tests of a value, where `half` or `top` fits and is what it should be
@@ -31,33 +29,23 @@ unsigned_test : {top : ℕ} (w : ℕ) (z : ℤ) → SFits w64 (pos top) → is_w
 unfolding in_range least greatest
 unsigned_test {top} w z f i e = rw (to_z_pos w64 top f.sfits, e, i)
 
-pub returns-then-not-width : goal.returns-then-not-width
-unfolding in_range is_width
-returns-then-not-width c =
-    rw (not-true (leb 1 c.args.width && leb c.args.width 32) c.if-not-width.true-raw)
-
-is_width_lem : (c : Else-not-width) → is_width c.args.width ≡ true
+is_width_lem : (c : Else-not-contains) → is_width c.args.width ≡ true
 unfolding is_width
-is_width_lem c = not-false (leb 1 c.args.width && leb c.args.width 32) c.if-not-width.false-raw
+is_width_lem c = search rules
 
-pub largest-top-requires : goal.largest-top-requires
-largest-top-requires c = (width_bounds c.args.width (is_width_lem c)).1
-
-pub overflow_cast-half : goal.overflow_cast-half
-overflow_cast-half c = search rules
+pub returns-then-not-contains : goal.returns-then-not-contains
+unfolding in_range is_width
+returns-then-not-contains c = search rules
 
 pub returns-then-signed : goal.returns-then-signed
 returns-then-signed c =
     let w = c.args.width in
-    let i = is_width_lem (goal.at.returns-then-signed c).Else-not-width in
+    let i = is_width_lem (goal.at.returns-then-signed c).Else-not-contains in
     rw (to_z-of_z w64 c.args.value c.ranges.value, c.if-signed.true)
-    (signed_test w c.args.value (overflow_cast-half c) i (omega (arith, half_power w (width_bounds w i).0, pow_pos (w - 1))))
-
-pub overflow_cast-result : goal.overflow_cast-result
-overflow_cast-result c = search rules
+    (signed_test w c.args.value (record { sfits = omega arith }) i (omega (arith, half_power w (width_bounds w i).0, pow_pos (w - 1))))
 
 pub returns : goal.returns
 returns c =
     let w = c.args.width in
     rw (to_z-of_z w64 c.args.value c.ranges.value, c.if-signed.false)
-    (unsigned_test w c.args.value (overflow_cast-result c) (is_width_lem (goal.at.returns c).Else-not-width) c.largest-top.ensures)
+    (unsigned_test w c.args.value (record { sfits = omega arith }) (is_width_lem (goal.at.returns c).Else-not-contains) c.largest-top.ensures)

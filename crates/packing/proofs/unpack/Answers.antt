@@ -2,32 +2,31 @@
 -- Assumes nothing.
 use mathlib.Core.Path.{◌≡◌, sym, ◌∙◌}
 use mathlib.Core.Bool.{true}
-use native.Mathlib.Omega.{arith}
 use lib.ListN.{length}
 use Rattle.packing.specs.Places.{in_frame, unpacked}
 use Rattle.packing.proofs.Places.{in_frame_bounds, places_in_places, places_in_none}
-use Rattle.packing.proofs.unpack.Goals.{Then-in_frame}
+use Rattle.packing.proofs.unpack.Goals.{Then-is_in}
 use Rattle.packing.proofs.unpack.Goals as goal
 
-lies : (c : Then-in_frame) →
+lies : (c : Then-is_in) →
     let a = c.args in
     in_frame (length a.frame.now) a.start a.width ≡ true
-lies c = sym c.in_frame.ensures ∙ c.if-in_frame.true
+lies c = sym c.is_in.ensures ∙ c.if-is_in.true
 
-pub unpack_bits-requires : goal.unpack_bits-requires
-unpack_bits-requires c =
+pub unpack-requires : goal.unpack-requires
+unpack-requires c =
     let a = c.args in
     let h = in_frame_bounds (length a.frame.now) a.start a.width (lies c) in
-    (h.1, omega arith, h.0)
+    (h.1, h.0)
 
-pub returns-then-in_frame : goal.returns-then-in_frame
-returns-then-in_frame c =
+pub returns-then-is_in : goal.returns-then-is_in
+returns-then-is_in c =
     let a = c.args in
-    rw (places_in_places (length a.frame.now) a.big a.start a.width (lies (goal.at.returns-then-in_frame c).Then-in_frame))
-    c.unpack_bits.ensures
+    rw (places_in_places (length a.frame.now) a.big a.start a.width (lies (goal.at.returns-then-is_in c).Then-is_in))
+    c.unpack.ensures
 
-pub returns : goal.returns
+pub returns-else-is_in : goal.returns-else-is_in
 unfolding unpacked
-returns c =
+returns-else-is_in c =
     let a = c.args in
-    rw (places_in_none (length a.frame.now) a.big a.start a.width (sym c.in_frame.ensures ∙ c.if-in_frame.false))
+    rw (places_in_none (length a.frame.now) a.big a.start a.width (sym c.is_in.ensures ∙ c.if-is_in.false))

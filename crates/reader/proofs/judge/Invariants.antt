@@ -6,7 +6,7 @@ use Rattle.reader.specs.Carried.{Lacks, Carried}
 use Rattle.reader.proofs.judge.Given as goal
 
 abbrev pub invariant-loop-i : goal.invariant-loop-i
-invariant-loop-i l = (l.i ≤ l.n) × Carried l.file l.i l.c l.number l.table × Lacks l.file l.i l.lacking × (l.lacking ≤ 256)
+invariant-loop-i l = (l.i ≤ l.n) × Carried l.file l.i l.c l.fields_so_far l.table × Lacks l.file l.i l.lacking × (l.lacking ≤ 256)
 
 abbrev pub decreases-loop-i : goal.decreases-loop-i
 decreases-loop-i l = l.n - l.i

@@ -1,9 +1,9 @@
--- The order of two fields' pairs: the code's tests are the definition's.
+-- The order of two fields' pairs: that of the kit's tuples is the definition's.
 -- Assumes nothing.
-use mathlib.Core.Path.{refl}
+use borrow.Author.Rules.{rules}
 use Rattle.record.specs.Records.{pair_below}
 use Rattle.record.proofs.pair_below.Goals as goal
 
 pub returns : goal.returns
 unfolding pair_below
-returns c = refl
+returns c = search rules

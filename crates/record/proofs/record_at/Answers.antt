@@ -1,25 +1,17 @@
--- Record i read by its kind: at each return the tests passed on the way say which of the definition's cases it is.
+-- Record i read by its kind: the arm that is taken says which of the definition's cases it is.
 -- Assumes nothing.
-use mathlib.Core.Path.{refl}
-use borrow.Author.Tests.{ne_eqb}
+use borrow.Author.Rules.{rules}
 use Rattle.record.specs.Records.{is_frame, is_message, record_at}
 use Rattle.record.proofs.record_at.Goals as goal
 
-pub returns-then-kind-eq1 : goal.returns-then-kind-eq1
+pub returns-in-1 : goal.returns-in-1
 unfolding record_at is_frame is_message
-returns-then-kind-eq1 c = rw (← c.byte-kind.ensures, c.if-kind-eq1.true, c.frame_at.ensures) refl
+returns-in-1 c = rw (← c.byte.ensures, c.in-1.is, c.frame_at.ensures)
 
-pub returns-then-kind-eq2 : goal.returns-then-kind-eq2
+pub returns-in-2 : goal.returns-in-2
 unfolding record_at is_frame is_message
-returns-then-kind-eq2 c = rw (← c.byte-kind.ensures, c.if-kind-eq2.true, c.message_at.ensures) refl
+returns-in-2 c = rw (← c.byte.ensures, c.in-2.is, c.message_at.ensures)
 
-pub returns : goal.returns
+pub returns-in_default : goal.returns-in_default
 unfolding record_at is_frame is_message
-returns c =
-    rw (
-      ← c.byte-kind.ensures,
-      ne_eqb _ 1 c.if-kind-eq1.false,
-      ne_eqb _ 2 c.if-kind-eq2.false,
-      c.field_at.ensures,
-    )
-    refl
+returns-in_default c = search rules

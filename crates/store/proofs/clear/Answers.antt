@@ -33,5 +33,5 @@ returns c =
     c.fill-2.ensures ∙ ap (λ (n : ℕ). replicate n 2) (length_part half 2723 128 (search rules)) in
     ap node_of
     (part_back half 2723 128 rest ∙ ap (λ (m : List ℕ). overwritten m 2723 128 twos) (part_back b 0 2723 front)
-    ∙ both b zeros twos c.requires (length-replicate {A = ℕ} 2723 0) (length-replicate {A = ℕ} 128 2))
+    ∙ both b zeros twos (omega arith) (length-replicate {A = ℕ} 2723 0) (length-replicate {A = ℕ} 128 2))
     ∙ nothing_read

@@ -2,6 +2,7 @@
 -- Assumes nothing.
 use mathlib.Core.Path.{ap, sym, ◌∙◌}
 use Prim.Native.Nat.{ℕ, ◌+◌, ◌*◌}
+use native.Mathlib.Omega.{arith}
 use Rattle.store.specs.Memory.{part}
 use Rattle.store.specs.Node.{deliveries_at}
 use Rattle.store.proofs.Parts.{part_lent}
@@ -12,6 +13,6 @@ pub returns : goal.returns
 returns c =
     let node = c.args.node.now in
     let from : ℕ = deliveries_at + c.args.f * 33 + 1 in
-    part_lent node from c.at_most.result
-    ∙ ap (part node from) c.at_most.ensures
-    ∙ sym (data_read node c.requires.1 c.args.f c.requires.0)
+    part_lent node from c.min.result
+    ∙ ap (part node from) c.min.ensures
+    ∙ sym (data_read node (omega arith) c.args.f c.requires)

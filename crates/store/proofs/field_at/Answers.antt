@@ -5,4 +5,4 @@ use Rattle.store.proofs.field_at.Goals as goal
 
 pub returns : goal.returns
 returns c =
-    cc (c.laid_at-x.ensures, c.stage_of.ensures, stage_read c.args.node.now c.args.d c.requires.0)
+    cc (c.laid_at.ensures, c.into.ensures, stage_read c.args.node.now c.args.d c.requires)

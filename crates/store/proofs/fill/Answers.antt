@@ -3,9 +3,8 @@ use mathlib.Core.List.{List, append-nil, append_assoc}
 use Prim.Native.Nat.{ℕ, ◌+◌, ◌<◌}
 use native.Mathlib.Numerals.{add-one}
 use native.Mathlib.Omega.{arith}
-use lib.ListN.{length, get_or, set, drop, replicate, length-set, length-replicate, replicate-append-replicate}
+use lib.ListN.{length, get_or, set, drop, replicate, length-replicate, replicate-append-replicate}
 use lib.Seq.{drop-cons, drop-length, set_at}
-use borrow.Author.Rules.{rules}
 use Rattle.store.proofs.fill.Invariants.{filled_to}
 use Rattle.store.proofs.fill.Goals as goal
 
@@ -19,21 +18,17 @@ turn l k i h =
 filled : (l : List ℕ) (k : ℕ) → filled_to l k (length l) ≡ replicate (length l) k
 filled l k = rw drop-length (append-nil (replicate (length l) k))
 
-pub loop-i-init : goal.loop-i-init
-loop-i-init c = (search rules, refl, refl, refl)
+pub loop-x-init : goal.loop-x-init
+loop-x-init c = refl
 
-pub loop-i-preserved : goal.loop-i-preserved
-loop-i-preserved c =
+pub loop-x-preserved : goal.loop-x-preserved
+loop-x-preserved c =
     let a = c.args in
-    let i = c.loop-i.i in (
-      search rules,
-      refl,
-      simp length-set (omega arith),
-      ap (λ (l : List ℕ). set l i a.k) c.loop-i.invariant.3 ∙ turn a.c.now a.k i (omega arith),
-    )
+    let i = c.loop-x.x-index in
+    ap (λ (l : List ℕ). set l i a.k) c.loop-x.invariant ∙ turn a.c.now a.k i (omega arith)
 
 pub returns : goal.returns
 returns c =
     let a = c.args in
-    let e : c.loop-i.i ≡ length a.c.now = omega arith in
-    c.loop-i.invariant.3 ∙ ap (filled_to a.c.now a.k) e ∙ filled a.c.now a.k
+    let e : c.loop-x.x-index ≡ length a.c.now = omega arith in
+    c.loop-x.invariant ∙ ap (filled_to a.c.now a.k) e ∙ filled a.c.now a.k

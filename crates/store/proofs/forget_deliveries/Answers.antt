@@ -15,4 +15,4 @@ returns c =
     let b = c.args.node.now in
     let n = c.args.n in
     let zeros = c.fill.ensures ∙ ap (λ (l : List ℕ). replicate (length l) 0) (part_lent b deliveries_at (n * 33)) ∙ ap (λ (k : ℕ). replicate k 0) (length_part b deliveries_at (n * 33) (omega arith)) in
-    ap node_of (part_back b deliveries_at (n * 33) zeros) ∙ forgotten b c.requires.1 n c.requires.0
+    ap node_of (part_back b deliveries_at (n * 33) zeros) ∙ forgotten b (omega arith) n c.requires

@@ -5,4 +5,4 @@ use Rattle.store.proofs.Places.{listed_read}
 use Rattle.store.proofs.listed_at.Goals as goal
 
 pub returns : goal.returns
-returns c = sym (listed_read c.args.node.now c.args.i c.requires.0)
+returns c = sym (listed_read c.args.node.now c.args.i c.requires)

@@ -5,4 +5,4 @@ use Rattle.store.proofs.Places.{mark_read}
 use Rattle.store.proofs.mark_at.Goals as goal
 
 pub returns : goal.returns
-returns c = sym (mark_read c.args.node.now c.args.f c.requires.0)
+returns c = sym (mark_read c.args.node.now c.args.f c.requires)

@@ -12,4 +12,4 @@ pub returns : goal.returns
 returns c =
     let a = c.args in
     ap node_of (sets-eq (a.frames ∷ a.messages ∷ a.fields ∷ []) a.node.now 0 (omega arith))
-    ∙ numbers_written a.node.now c.requires a.frames a.messages a.fields
+    ∙ numbers_written a.node.now (omega arith) a.frames a.messages a.fields

@@ -1,8 +1,8 @@
 -- `store::put_laid` meets its contract: the cell is written where it lies, and what is stored there is read back.
 -- Assumes nothing.
-use Prim.Native.Nat.{◌+◌, ◌*◌}
-use Rattle.store.specs.Node.{fields_at, laid_bytes}
-use Rattle.store.proofs.Parts.{part_back}
+use mathlib.Core.Path.{ap}
+use native.Mathlib.Omega.{arith}
+use Rattle.store.specs.Node.{node_of, laid_bytes}
 use Rattle.store.proofs.Cells.{laid_size, laid_decoded}
 use Rattle.store.proofs.Places.{laid_written}
 use Rattle.store.proofs.put_laid.Goals as goal
@@ -13,7 +13,7 @@ returns c =
     let d = c.args.d in
     let x = c.args.x in
     cc (
-      part_back node (fields_at + d * 5) 5 c.write_laid.ensures,
-      laid_written node c.requires.1 d (laid_bytes x) c.requires.0 (laid_size x),
+      ap node_of c.write_cell.ensures,
+      laid_written node (omega arith) d (laid_bytes x) c.requires (laid_size x),
       laid_decoded x,
     )

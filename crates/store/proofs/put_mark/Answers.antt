@@ -22,7 +22,7 @@ returns c =
     let size : length cell ≡ 33 = length_part node at 33 (omega arith) in
     cc (
       first_within node at 33 k (omega arith) (omega arith),
-      delivery_written node c.requires.1 f (set cell 0 k) c.requires.0 (length-set cell 0 k ∙ size),
+      delivery_written node (omega arith) f (set cell 0 k) c.requires (length-set cell 0 k ∙ size),
       delivery_marked cell k size,
-      delivery_read node f c.requires.0,
+      delivery_read node f c.requires,
     )

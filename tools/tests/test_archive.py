@@ -74,6 +74,15 @@ class Archive(unittest.TestCase):
         # What lies in the red zone elsewhere lies on the stack here.
         self.assertLess(stack("x86_64-linux", "mondgurt_assemble"), stack("x86_64-none", "mondgurt_assemble"))
 
+    def test_operations_on_floats(self) -> None:
+        # Additions, divisions, -0 as a constant, and one comparison, of a quotient with itself: an infinite sum makes a NaN in none of them.
+        module = (ARCHIVES / "x86_64-linux/module.ll").read_text()
+        operations = re.findall(r"= (f(?:add|sub|mul|div|rem|neg|cmp)) (.*)$", module, re.MULTILINE)
+        self.assertEqual({"fadd", "fdiv", "fneg", "fcmp"}, {name for name, _ in operations})
+        for name, operands in operations:
+            if name in ("fneg", "fcmp"):
+                self.assertRegex(operands, r"^float 0\.0+e\+00$|^une float %\w+, %\w+$")
+
     def test_no_unaligned_access(self) -> None:
         with tempfile.TemporaryDirectory() as name:
             script, code = Path(name, "script"), Path(name, "code")

@@ -1,10 +1,14 @@
 """The listing program as people run it: what it makes of inputs around the longest layout, of endless ones, and of those that cannot be read."""
 
 import os
+import platform
 import pty
+import signal
 import socket
+import struct
 import subprocess
 import sys
+import time
 import tty
 import unittest
 from pathlib import Path
@@ -21,6 +25,25 @@ LISTING = text.listing(text.parse((SAMPLES / "largest.txt").read_text()))
 
 SIZE = (0, "refused 1 record 0\n", "")
 FAILED = (1, "", "list: standard input cannot be read\n")
+
+
+def state_in(group: int) -> str:
+    """The state of the listing program in a process group, as Linux tells it: S while it waits, T while it is stopped; nothing before it runs."""
+    for process in Path("/proc").glob("[0-9]*"):
+        try:
+            if os.readlink(process / "exe").endswith("crates/list/out/list") and os.getpgid(int(process.name)) == group:
+                return (process / "stat").read_text().rpartition(")")[2].split()[0]
+        except OSError:  # it has ended, or is not ours to see
+            continue
+    return ""
+
+
+def await_state(group: int, state: str) -> None:
+    until = time.monotonic() + 60
+    while state_in(group) != state:
+        if time.monotonic() > until:
+            raise TimeoutError(state)
+        time.sleep(0.01)
 
 
 class Listing(unittest.TestCase):
@@ -51,6 +74,22 @@ class Listing(unittest.TestCase):
                 ours.send(LARGEST[at : at + 100])
             ours.close()
             self.assertEqual((0, LISTING, ""), self.run_list(stdin=theirs))
+
+    @unittest.skipUnless(platform.machine() == "x86_64", "elsewhere an emulator reads for the program")
+    def test_interrupted(self) -> None:
+        # A stop and a continuation interrupt a read of a socket that has a time limit: it fails, and is not tried again.
+        ours, theirs = socket.socketpair()
+        theirs.setsockopt(socket.SOL_SOCKET, socket.SO_RCVTIMEO, struct.pack("ll", 60, 0))
+        pipes = {"stdout": subprocess.PIPE, "stderr": subprocess.PIPE}
+        with ours, theirs, subprocess.Popen([PROGRAM], stdin=theirs, start_new_session=True, **pipes) as script:
+            ours.send(LARGEST[:100])
+            await_state(script.pid, "S")
+            os.killpg(script.pid, signal.SIGSTOP)
+            await_state(script.pid, "T")
+            os.killpg(script.pid, signal.SIGCONT)
+            ours.close()
+            out, err = script.communicate(timeout=60)
+        self.assertEqual(FAILED, (script.returncode, out.decode(), err.decode()))
 
     def test_endless(self) -> None:
         with open("/dev/zero", "rb") as zeros:

@@ -1,15 +1,14 @@
 -- The value that the kit reads from a pattern is its number (specs/Patterns.antt).
 -- Assumes nothing.
 use mathlib.Core.Path.{◌≡◌, refl, ap, sym, ◌∙◌, subst}
-use mathlib.Core.Bool.{Bool, true, false, not, cond}
+use mathlib.Core.Bool.{Bool, true, false, not, cond, true≢false}
 use Prim.Native.Nat.{ℕ, zero, suc, ◌+◌, ◌^◌}
 use native.Mathlib.Nat.{mul-one}
 use lib.Dec.{T, eqb}
 use lib.Pow.{field}
-use lib.Ieee.{Float, nan, inf, fin, binary32, odd, fits, of_fields, of_bits, to_bits, nan_bits}
+use lib.Ieee.{Float, nan, inf, fin, binary32, odd, fits, of_fields, of_bits, to_bits, nan_bits, is_nan}
 use lib.Ieee.Bits.{of_bits-to_bits}
 use lib.Ieee.Exact.{HasValue, odd_sign}
-use Rattle.std.specs.Float.{float_is_finite}
 use Rattle.float.specs.Patterns.{negative, exponent, fraction, aside, units, size_of}
 
 -- a finite value, as a whole multiple of 2^-149 with a sign
@@ -66,15 +65,9 @@ pub no_nan : (x : ℕ) → aside x ≡ false → T (not (nan_bits binary32 x))
 unfolding aside nan_bits
 no_nan x t = rw (ap (λ e. eqb e 255) (field x 8 23) ∙ t) tt
 
--- a value is finite exactly if its pattern is not set aside
-pub finite_lem : (v : Float) → T (fits binary32 v) → float_is_finite v ≡ not (aside (to_bits binary32 v))
-unfolding float_is_finite
-finite_lem v f = go v (aside (to_bits binary32 v)) (finite_value v f) (aside_value v f)
-  where
-    go : (v : Float) (t : Bool) → (t ≡ false → Units v (negative (to_bits binary32 v)) (size_of (to_bits binary32 v))) → (t ≡ true → Aside v) → float_is_finite v ≡ not t
-    go nan true h k = refl
-    go nan false h k = absurd (h refl)
-    go (inf s) true h k = refl
-    go (inf s) false h k = absurd (h refl)
-    go (fin s m e) true h k = absurd (k refl)
-    go (fin s m e) false h k = refl
+-- what is not a number is set aside
+pub not_number : (v : Float) → is_nan v ≡ true → aside (to_bits binary32 v) ≡ true
+unfolding is_nan aside to_bits
+not_number nan t = refl
+not_number (inf s) t = absurd (true≢false (sym t))
+not_number (fin s m e) t = absurd (true≢false (sym t))

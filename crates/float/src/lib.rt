@@ -51,10 +51,15 @@ pub fn divide(s: FloatSum) -> Option<u32>
         return None;
     }
     let q = s.sum / (s.count as f32);
-    if !q.is_finite() {
+    // Not `is_finite`: it takes the quotient from itself, which makes a NaN of an infinite one and leaves the processor's flag of an invalid operation set.
+    if q.is_nan() {
         return None;
     }
-    Some(q.to_bits())
+    let pattern = q.to_bits();
+    if is_aside(pattern) {
+        return None;
+    }
+    Some(pattern)
 }
 
 // The rank of a pattern in the order of numbers.

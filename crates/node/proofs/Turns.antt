@@ -1,49 +1,24 @@
--- Loops over an owner's fields: whether there is one and the messages of all are invalid; and stages that are moved on, one by one, in place.
+-- Stages of an owner's fields, moved on one by one, in place.
 -- Assumes nothing.
 use mathlib.Core.Path.{◌≡◌, refl, ap, sym, ◌∙◌}
-use mathlib.Core.Bool.{Bool, true, false, not, cond, ◌&&◌, ◌||◌, and-true, or-true, or-false}
-use mathlib.Core.List.{List, [], ◌∷◌, map}
+use mathlib.Core.Bool.{Bool, true, false, cond}
+use mathlib.Core.List.{List, [], ◌∷◌}
 use Prim.Native.Nat.{ℕ, ◌+◌, ◌<◌, ◌≤◌}
 use native.Mathlib.Decide.{ℕ_discrete}
 use native.Mathlib.Omega.{arith}
 use lib.ListN.{length, get_or, set, length-set}
 use lib.Seq.{ext_get_or, get_or-set_same, get_or-set_other}
 use borrow.Author.Tests.{eq-eqb, ne_eqb}
-use Rattle.whole.specs.Whole.{all_of}
-use Rattle.record.specs.declared.Field.{Field as FieldRecord}
-use Rattle.store.specs.declared.Field.{Field}
 use Rattle.store.specs.declared.Stage.{Stage}
 use Rattle.store.specs.declared.Stage.TheVariants.{Waiting, Loaded, Gone}
 use Rattle.store.specs.Node.{State, Node, StoredStage, stage_at, no_stage, with_stages, with_stage, node_with}
 use Rattle.message.specs.declared.Change.{Change}
 use Rattle.message.specs.Fields.{stage_after}
 use Rattle.own.specs.declared.Owner.{Owner}
-use Rattle.own.specs.Own.{changed, is_in, first_place, end_place, cell_at, owns, cells_of, fields_of, stored_of}
-use Rattle.node.specs.Calls.{is_empty, invalid_in, all_invalid, moved}
+use Rattle.own.specs.Own.{changed, is_in, first_place, end_place, cell_at, owns, cells_of}
+use Rattle.node.specs.Calls.{moved}
 use Rattle.own.proofs.Lists.{changed_length, changed_at}
-use Rattle.own.proofs.Ahead.{laid_stored, ahead, first_ahead, last_ahead, own_ahead, other_ahead}
-
--- ---- the messages of fields, all invalid, where there must be a field: `some` says that one was there
-
-module _ (s : State) where
-  abbrev pub invalid_from : Bool → List FieldRecord → Bool
-  invalid_from some l = (some || not (is_empty l)) && all_of (invalid_in s) l
-
-  pub invalid_begin : (n : Node) (o : Owner) {l : List Field} → l ≡ stored_of n o → all_invalid s (fields_of n.layout o) ≡ invalid_from false (map (λ (x : Field). x.laid) l)
-  invalid_begin n o e = rw (e, laid_stored n o) refl
-
-  module _ (x : FieldRecord) (l : List FieldRecord) (some : Bool) where
-    pub invalid_turn : invalid_in s x ≡ true → invalid_from some (x ∷ l) ≡ invalid_from true l
-    unfolding all_of
-    invalid_turn t = rw (or-true, t) refl
-
-    pub invalid_stop : invalid_in s x ≡ false → invalid_from some (x ∷ l) ≡ false
-    unfolding all_of
-    invalid_stop t = rw (or-true, t) refl
-
-  pub invalid_end : (some : Bool) → invalid_from some [] ≡ some
-  unfolding all_of
-  invalid_end some = rw (or-false, and-true) refl
+use Rattle.own.proofs.Ahead.{ahead, first_ahead, last_ahead, own_ahead, other_ahead}
 
 -- ---- stages, moved on in place
 

@@ -126,6 +126,7 @@ once =
       is_gone_lem = λ x. one _;
       write_field = λ buffer h g s x. one _;
       places_of_lem = λ b o r s p q. p.0 ∙ sym q.0;
+      range_of_lem = λ p. one _;
       cell_at_lem = λ b o i r s p q. p.0 ∙ sym q.0;
       fields_lem = λ b o r s p q. p ∙ sym q;
       own = λ b o d. one _;

@@ -77,9 +77,10 @@ use Rattle.start.specs.Start.{start_of}
 use Rattle.message.specs.declared.Change.{Change}
 use Rattle.message.specs.Messages.{can_hold, offered, invalidated, settled}
 use Rattle.message.specs.Fields.{stage_after, is_gone, writes}
-use Rattle.own.specs.declared.Owner.{Owner}
 use Rattle.std.specs.declared.ops.Range.{Range}
-use Rattle.own.specs.Own.{places_of, cell_at, Given, owns, stored_of}
+use Rattle.own.specs.declared.Owner.{Owner}
+use Rattle.own.specs.declared.Places.{Places}
+use Rattle.own.specs.Own.{places_of, range_of, cell_at, Given, owns, stored_of}
 use Rattle.closing.specs.Closing.{close_of}
 use Rattle.calls.specs.Relations.{Call, Seen, Memory, Does, Loads}
 
@@ -202,7 +203,8 @@ pub record Once : Type 0 where
   pub write_field : (buffer : List ℕ) (h : Frame) (g : Message) (s : MessageState) (x : FieldRecord)
       → Single (λ (after : List ℕ). after ≡ writes h g s x buffer)
   -- own
-  pub places_of_lem : (b : List ℕ) (o : Owner) → Single (λ (r : Range ℕ). (r ≡ places_of (layout_of b) o) × (r.end ≤ 128))
+  pub places_of_lem : (b : List ℕ) (o : Owner) → Single (λ (r : Places). (r ≡ places_of (layout_of b) o) × (r.end ≤ 128))
+  pub range_of_lem : (p : Places) → Single (λ (r : Range ℕ). r ≡ range_of p)
   pub cell_at_lem : (b : List ℕ) (o : Owner) (i : ℕ) → Single (λ (r : ℕ). (r ≡ cell_at (layout_of b) o i) × Given o r)
   -- of an owner's fields: all that come
   pub fields_lem : (b : List ℕ) (o : Owner) → Single (λ (r : List Field). r ≡ stored_of (node_of b) o)

@@ -6,6 +6,7 @@ use Rattle.store.specs.declared.Field.{Field}
 use Rattle.store.specs.Node.{Layout, Node, frame_at, message_at, laid_at, listed_at, field_at}
 use Rattle.start.specs.Start.{table}
 use Rattle.own.specs.declared.Owner.{Owner}
+use Rattle.own.specs.declared.Places.{Places}
 use Rattle.std.specs.declared.ops.Range.{Range}
 
 -- ---- lists
@@ -43,8 +44,12 @@ abbrev pub end_place : Layout → Owner → ℕ
 end_place l (Owner.Message m) = min 128 ((message_at l m).first + min (message_at l m).fields 8)
 end_place l (Owner.Frame f) = min 128 ((frame_at l f).first + (frame_at l f).fields)
 
-abbrev pub places_of : Layout → Owner → Range ℕ
-places_of l o = record { start = first_place l o; end = end_place l o }
+abbrev pub places_of : Layout → Owner → Places
+places_of l o = record { from = first_place l o; end = end_place l o }
+
+-- the numbers of those places
+abbrev pub range_of : Places → Range ℕ
+range_of p = record { start = p.from; end = p.end }
 
 -- the cell that a place gives
 abbrev pub cell_at : Layout → Owner → ℕ → ℕ

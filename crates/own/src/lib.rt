@@ -4,7 +4,7 @@
 ghost use Rattle.std.specs.Prelude.{◌≡◌, ◌<◌, ◌≤◌};
 ghost use Rattle.std.specs.Iterator.{YieldsFirst, item_count};
 ghost use Rattle.store.specs.Node.{layout_of, node_of};
-ghost use Rattle.own.specs.Own.{InMemory, places_of, cell_at, Given, owns, stored_of};
+ghost use Rattle.own.specs.Own.{InMemory, places_of, range_of, cell_at, Given, owns, stored_of};
 
 use std::ops::Range;
 use store::Node;
@@ -16,8 +16,26 @@ pub enum Owner {
     Frame(u8),
 }
 
-// The places where an owner's fields are found.
-pub fn places_of(node: &Node, owner: Owner) -> Range<usize>
+// The places where an owner's fields are found: from .. end. A type of its own, since a `Range` is not Copy.
+#[derive(Clone, Copy)]
+pub struct Places {
+    pub from: usize,
+    pub end: usize,
+}
+
+impl IntoIterator for Places {
+    type Item = usize;
+
+    type IntoIter = Range<usize>;
+
+    ghost into_iter_gives = { λ places range. range ≡ range_of places };
+
+    fn into_iter(self) -> Range<usize> {
+        self.from..self.end
+    }
+}
+
+pub fn places_of(node: &Node, owner: Owner) -> Places
     requires { InMemory owner }
     ensures { (result ≡ places_of (layout_of node.now) owner) × (result.end ≤ 128) }
 {
@@ -25,12 +43,18 @@ pub fn places_of(node: &Node, owner: Owner) -> Range<usize>
         Owner::Message(m) => {
             let g = store::message_at(node, m as usize);
             let from = g.first as usize;
-            from..(from + (g.fields as usize).min(8)).min(128)
+            Places {
+                from,
+                end: (from + (g.fields as usize).min(8)).min(128),
+            }
         }
         Owner::Frame(f) => {
             let h = store::frame_at(node, f as usize);
             let from = h.first as usize;
-            from..(from + h.fields as usize).min(128)
+            Places {
+                from,
+                end: (from + h.fields as usize).min(128),
+            }
         }
     }
 }
@@ -79,7 +103,7 @@ impl Owner {
         Fields {
             node,
             owner: self,
-            places: places_of(node, self),
+            places: places_of(node, self).into_iter(),
         }
     }
 }

@@ -5,7 +5,9 @@
 // The file script.txt beside this folder has the calls in words, with their answers.
 #![tactic(auto)]
 
-use std::io::{self, Cursor, Read};
+ghost use Rattle.std.specs.Prelude.{◌≤◌, length};
+
+use std::io::Read;
 use store::Node;
 
 type Step = [u8; 40];
@@ -70,102 +72,143 @@ impl<'a> Call<'a> {
         Some(call)
     }
 
-    // The call is made before it is printed, so that a write that fails keeps none back.
-    fn play(self, rt: &impl Print, node: &mut Node) -> io::Result<()> {
+    // Whatever becomes of the writes, the call is made.
+    fn play(self, rt: &impl Print, node: &mut Node) {
         match self {
             Call::Send { message, value } => {
-                let answer = node::send(node, message, value);
-                print!(rt; "send {message}: {answer} {value}")
+                say_call(rt, "send ", message);
+                say_number(rt, u64::from(node::send(node, message, value)));
+                say_value(rt, value);
             }
             Call::Invalidate { message } => {
-                let answer = node::invalidate(node, message);
-                print!(rt; "invalidate {message}: {answer}")
+                say_call(rt, "invalidate ", message);
+                say_number(rt, u64::from(node::invalidate(node, message)));
             }
-            Call::Assemble { frame, size } => play_assemble(rt, node, frame, size),
+            Call::Assemble { frame, size } => {
+                say_call(rt, "assemble ", frame);
+                play_assemble(rt, node, frame, size);
+            }
             Call::Consumed { frame } => {
-                let answer = node::consumed(node, frame);
-                print!(rt; "consumed {frame}: {answer}")
+                say_call(rt, "consumed ", frame);
+                say_number(rt, u64::from(node::consumed(node, frame)));
             }
             Call::Flag { message } => {
+                say_call(rt, "flag ", message);
                 let mut flag = 9u8;
-                let answer = node::read_flag(node, message, &mut flag);
-                print!(rt; "flag {message}: {answer} {flag}")
+                say_number(rt, u64::from(node::read_flag(node, message, &mut flag)));
+                say_value(rt, i64::from(flag));
             }
             Call::Deliver {
                 frame,
                 valid,
                 bytes,
             } => {
-                let Some(bytes) = bytes else {
-                    return print!(rt; "deliver {frame}: ");
-                };
-                let answer = node::deliver(node, frame, valid, bytes);
-                print!(rt; "deliver {frame}: {answer}")
+                say_call(rt, "deliver ", frame);
+                if let Some(bytes) = bytes {
+                    say_number(rt, u64::from(node::deliver(node, frame, valid, bytes)));
+                }
             }
             Call::Close => {
-                let answer = node::close(node);
-                print!(rt; "close: {answer}")
+                say(rt, "close: ");
+                say_number(rt, u64::from(node::close(node)));
             }
             Call::Receive { message } => {
+                say_call(rt, "receive ", message);
                 let mut value = 99i64;
-                let answer = node::receive(node, message, &mut value);
-                print!(rt; "receive {message}: {answer} {value}")
+                say_number(rt, u64::from(node::receive(node, message, &mut value)));
+                say_value(rt, value);
             }
         }
     }
 }
 
-fn play_assemble(rt: &impl Print, node: &mut Node, frame: u64, size: usize) -> io::Result<()> {
+// ---- what is printed
+
+// A piece of a line. Each is written by itself, so that a write that fails takes no other piece with it; it is passed over, and the calls go on.
+fn say(rt: &impl Print, text: &str) {
+    let _ = rt.write_all(text.as_bytes());
+}
+
+fn say_number(rt: &impl Print, n: u64) {
+    let _ = rt.print(n);
+}
+
+fn say_call(rt: &impl Print, name: &str, number: u64) {
+    say(rt, name);
+    say_number(rt, number);
+    say(rt, ": ");
+}
+
+fn say_value(rt: &impl Print, value: i64) {
+    say(rt, if value < 0 { " -" } else { " " });
+    say_number(rt, value.unsigned_abs());
+}
+
+fn play_assemble(rt: &impl Print, node: &mut Node, frame: u64, size: usize) {
     let mut memory = [255u8; 32];
     let Some(buffer) = memory.get_mut(..size) else {
-        return print!(rt; "assemble {frame}: ");
+        return;
     };
-    let answer = node::assemble(node, frame, buffer);
-    let _ = print!(rt; "assemble {frame}: {answer}");
-    for byte in buffer {
-        let _ = print!(rt; " {byte}");
+    say_number(rt, u64::from(node::assemble(node, frame, buffer)));
+    for &byte in buffer.iter() {
+        say_value(rt, i64::from(byte));
     }
-    Ok(())
 }
 
 // One step on its node: a line.
-fn play_step(rt: &impl Print, name: char, node: &mut Node, step: &Step) -> io::Result<()> {
-    let _ = print!(rt; "{name} ");
+fn play_step(rt: &impl Print, name: &str, node: &mut Node, step: &Step) {
+    say(rt, name);
     if let Some(call) = Call::of(step) {
-        let _ = call.play(rt, node);
+        call.play(rt, node);
     }
-    println!(rt)
+    say(rt, "\n");
 }
 
-fn play_load(rt: &impl Print, node: &mut Node, file: &[u8]) -> io::Result<()> {
-    let answer = node::load(node, file);
-    println!(rt; "load: {answer}")
+fn play_load(rt: &impl Print, node: &mut Node, file: &[u8]) {
+    say(rt, "load: ");
+    say_number(rt, u64::from(node::load(node, file)));
+    say(rt, "\n");
 }
 
-// A write that fails is passed over, and the calls go on.
+// ---- what is played
+
+// Reads until the buffer is full, the input ends or a read fails. Not by `copy`: that tries a read again which a signal interrupted, where this one has failed.
+fn read_full(from: &mut impl Read, input: &mut [u8]) -> usize
+    ensures { result ≤ length input.new }
+{
+    let mut n = 0;
+    while n < input.len() {
+        let Ok(more) = from.read(&mut input[n..]) else {
+            break;
+        };
+        if more == 0 {
+            break;
+        }
+        n += more;
+    }
+    n
+}
+
 fn main(rt: HostRuntime) {
     // Not cut to what was read: zeros beyond a short input are read as records.
     let mut input = [0u8; 8192];
-    let mut read = Cursor::new(&mut input[..]);
-    // A read that fails ends the input.
-    let _ = io::copy(&mut rt.stdin().take(8192), &mut read);
-    let n = read.position() as usize;
+    let n = read_full(&mut rt.stdin(), &mut input);
     let mut a: Node = [0; 2851];
     let mut b: Node = [0; 2851];
     let middle = 2 + 24 * (usize::from(input[0]) % 100);
     let end = middle + 24 * (usize::from(input[1]) % 100);
-    let _ = play_load(&rt, &mut a, &input[2..middle]);
-    let _ = play_load(&rt, &mut b, &input[middle..end]);
+    play_load(&rt, &mut a, &input[2..middle]);
+    play_load(&rt, &mut b, &input[middle..end]);
     let Some(steps) = input.get(end..n) else {
         return;
     };
     let (steps, _) = steps.as_chunks();
     for step in steps {
         let (name, node) = if step[0] == 0 {
-            ('a', &mut a)
+            ("a ", &mut a)
         } else {
-            ('b', &mut b)
+            ("b ", &mut b)
         };
-        let _ = play_step(&rt, name, node, step);
+        play_step(&rt, name, node, step);
     }
 }

@@ -8,7 +8,7 @@ use mir.Syntax.{w64}
 use mir.ValLaws.{to_z-of_z}
 use Rattle.store.specs.Node.{layout_of, node_of, laid_at}
 use Rattle.own.specs.declared.Owner.{Owner}
-use Rattle.own.specs.Own.{end_place}
+use Rattle.own.specs.Own.{end_place, range_of}
 use Rattle.own.proofs.Ahead.{first_ahead, last_ahead, here_ahead, own_ahead, other_ahead, fields_ahead, cells_few}
 use Rattle.closing.specs.Closing.{value_in}
 use Rattle.closing.proofs.Rounds.{came_known, gather_begin, gather_end, counts_turn, unset_turn, absent_turn, none_turn, none_absent}
@@ -18,7 +18,7 @@ pub loop-i-init : goal.loop-i-init
 loop-i-init c =
     let l = layout_of c.args.node.now in
     let o = Owner.Message c.args.message in
-    let places = c.into_iter-i-iterator.ensures.into_iter_gives ∙ c.places_of-i-items.ensures.0 in
+    let places = c.into_iter-i-iterator.ensures.into_iter_gives ∙ ap range_of c.places_of-i-items.ensures.0 in
     let (counting, none) = gather_begin (node_of c.args.node.now) c.args.message in
     rw (places, c.requires.1, first_ahead l o) (refl, omega (arith, cells_few l c.args.message), counting, none)
 

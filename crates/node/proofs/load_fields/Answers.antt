@@ -5,7 +5,7 @@ use Rattle.store.specs.Node.{Node, layout_of, state_of, node_of, node_with}
 use Rattle.store.proofs.Laws.{stage_stored}
 use Rattle.message.specs.declared.Change.{Change}
 use Rattle.own.specs.declared.Owner.{Owner}
-use Rattle.own.specs.Own.{end_place}
+use Rattle.own.specs.Own.{end_place, range_of}
 use Rattle.node.specs.Calls.{written}
 use Rattle.own.proofs.Ahead.{end_few, first_ahead, last_ahead, here_ahead, inside, own_ahead, other_ahead}
 use Rattle.node.proofs.Turns.{after_stored, move_begin, move_turn, move_skip, move_end}
@@ -23,7 +23,7 @@ pub loop-i-init : goal.loop-i-init
 loop-i-init c =
     let n = node_of c.args.node.now in
     let owner = Owner.Frame c.args.frame in
-    let places = c.into_iter-i-iterator.ensures.into_iter_gives ∙ c.places_of-i-items.ensures.0 in
+    let places = c.into_iter-i-iterator.ensures.into_iter_gives ∙ ap range_of c.places_of-i-items.ensures.0 in
     rw places (refl, ap (node_with n) (move_begin Change.Load owner n), rw (first_ahead n.layout owner) refl)
 
 pub cell_at-d-requires : goal.cell_at-d-requires

@@ -3,7 +3,7 @@ use Prim.Native.Nat.{◌≤◌}
 use native.Mathlib.Omega.{arith}
 use Rattle.store.specs.Node.{Node, layout_of, node_of, node_with}
 use Rattle.store.proofs.Laws.{stage_stored}
-use Rattle.own.specs.Own.{end_place}
+use Rattle.own.specs.Own.{end_place, range_of}
 use Rattle.own.proofs.Ahead.{end_few, here_ahead, inside}
 use Rattle.node.proofs.Turns.{after_stored, move_begin, move_turn, move_skip, move_end}
 use Rattle.node.proofs.move_fields.Goals.{At-loop-i}
@@ -18,7 +18,7 @@ same_end c = rw (same_layout c) c.loop-i.invariant.0
 pub loop-i-init : goal.loop-i-init
 loop-i-init c =
     let n = node_of c.args.node.now in
-    let places = c.into_iter-i-iterator.ensures.into_iter_gives ∙ c.places_of-i-items.ensures.0 in
+    let places = c.into_iter-i-iterator.ensures.into_iter_gives ∙ ap range_of c.places_of-i-items.ensures.0 in
     rw places (refl, ap (node_with n) (move_begin c.args.change c.args.owner n))
 
 pub cell_at-d-requires : goal.cell_at-d-requires

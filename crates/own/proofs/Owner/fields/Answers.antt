@@ -5,4 +5,4 @@ use Rattle.own.proofs.Owner.fields.Goals as goal
 
 pub returns : goal.returns
 unfolding cells_of
-returns c = rw c.places_of.ensures.0 refl
+returns c = rw (c.into_iter.ensures.into_iter_gives, c.places_of.ensures.0) refl

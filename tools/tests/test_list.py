@@ -3,12 +3,10 @@
 import os
 import platform
 import pty
-import signal
 import socket
 import struct
 import subprocess
 import sys
-import time
 import tty
 import unittest
 from pathlib import Path
@@ -17,6 +15,7 @@ from random import Random
 from mondgurt_layout import text
 
 from .layouts import SAMPLES
+from .processes import interrupt_read
 
 PROGRAM, LAYOUT = (str(Path(__file__).resolve().parents[1] / name) for name in ("list", "layout"))
 
@@ -25,25 +24,6 @@ LISTING = text.listing(text.parse((SAMPLES / "largest.txt").read_text()))
 
 SIZE = (0, "refused 1 record 0\n", "")
 FAILED = (1, "", "list: standard input cannot be read\n")
-
-
-def state_in(group: int) -> str:
-    """The state of the listing program in a process group, as Linux tells it: S while it waits, T while it is stopped; nothing before it runs."""
-    for process in Path("/proc").glob("[0-9]*"):
-        try:
-            if os.readlink(process / "exe").endswith("crates/list/out/list") and os.getpgid(int(process.name)) == group:
-                return (process / "stat").read_text().rpartition(")")[2].split()[0]
-        except OSError:  # it has ended, or is not ours to see
-            continue
-    return ""
-
-
-def await_state(group: int, state: str) -> None:
-    until = time.monotonic() + 60
-    while state_in(group) != state:
-        if time.monotonic() > until:
-            raise TimeoutError(state)
-        time.sleep(0.01)
 
 
 class Listing(unittest.TestCase):
@@ -77,16 +57,13 @@ class Listing(unittest.TestCase):
 
     @unittest.skipUnless(platform.machine() == "x86_64", "elsewhere an emulator reads for the program")
     def test_interrupted(self) -> None:
-        # A stop and a continuation interrupt a read of a socket that has a time limit: it fails, and is not tried again.
+        # Such a read has failed, and is not tried again.
         ours, theirs = socket.socketpair()
         theirs.setsockopt(socket.SOL_SOCKET, socket.SO_RCVTIMEO, struct.pack("ll", 60, 0))
         pipes = {"stdout": subprocess.PIPE, "stderr": subprocess.PIPE}
         with ours, theirs, subprocess.Popen([PROGRAM], stdin=theirs, start_new_session=True, **pipes) as script:
             ours.send(LARGEST[:100])
-            await_state(script.pid, "S")
-            os.killpg(script.pid, signal.SIGSTOP)
-            await_state(script.pid, "T")
-            os.killpg(script.pid, signal.SIGCONT)
+            interrupt_read("list", script.pid)
             ours.close()
             out, err = script.communicate(timeout=60)
         self.assertEqual(FAILED, (script.returncode, out.decode(), err.decode()))

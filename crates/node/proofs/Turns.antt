@@ -1,24 +1,51 @@
--- Stages of an owner's fields, moved on one by one, in place.
+-- Loops over an owner's cells: whether there is one and the messages of all are invalid; and stages that are moved on, one by one, in place.
 -- Assumes nothing.
 use mathlib.Core.Path.{◌≡◌, refl, ap, sym, ◌∙◌}
-use mathlib.Core.Bool.{Bool, true, false, cond}
-use mathlib.Core.List.{List, [], ◌∷◌}
+use mathlib.Core.Bool.{Bool, true, false, not, cond, ◌&&◌, ◌||◌, and-true, or-true, or-false}
+use mathlib.Core.List.{List, [], ◌∷◌, map}
 use Prim.Native.Nat.{ℕ, ◌+◌, ◌<◌, ◌≤◌}
 use native.Mathlib.Decide.{ℕ_discrete}
 use native.Mathlib.Omega.{arith}
 use lib.ListN.{length, get_or, set, length-set}
 use lib.Seq.{ext_get_or, get_or-set_same, get_or-set_other}
 use borrow.Author.Tests.{eq-eqb, ne_eqb}
+use Rattle.whole.specs.Whole.{all_of}
 use Rattle.store.specs.declared.Stage.{Stage}
 use Rattle.store.specs.declared.Stage.TheVariants.{Waiting, Loaded, Gone}
-use Rattle.store.specs.Node.{State, Node, StoredStage, stage_at, no_stage, with_stages, with_stage, node_with}
+use Rattle.store.specs.Node.{Layout, State, Node, StoredStage, laid_at, stage_at, no_stage, with_stages, with_stage, node_with}
 use Rattle.message.specs.declared.Change.{Change}
 use Rattle.message.specs.Fields.{stage_after}
 use Rattle.own.specs.declared.Owner.{Owner}
-use Rattle.own.specs.Own.{changed, is_in, first_place, end_place, cell_at, owns, cells_of}
-use Rattle.node.specs.Calls.{moved}
+use Rattle.own.specs.Own.{changed, is_in, first_place, end_place, cell_at, owns, cells_of, fields_of}
+use Rattle.node.specs.Calls.{is_empty, invalid_in, all_invalid, moved}
 use Rattle.own.proofs.Lists.{changed_length, changed_at}
 use Rattle.own.proofs.Ahead.{ahead, first_ahead, last_ahead, own_ahead, other_ahead}
+
+-- ---- the messages of an owner's fields, all invalid, where there must be a field: `some` says that one was there
+
+module _ (l : Layout) (o : Owner) (s : State) where
+  abbrev pub invalid_ahead : Bool → ℕ → Bool
+  invalid_ahead some i = (some || not (is_empty (map (laid_at l) (ahead l o i)))) && all_of (invalid_in s) (map (laid_at l) (ahead l o i))
+
+  pub invalid_begin : all_invalid s (fields_of l o) ≡ invalid_ahead false (first_place l o)
+  invalid_begin = rw first_ahead refl
+
+  module _ (i : ℕ) (here : i < end_place l o) {d : ℕ} (told : d ≡ cell_at l o i) {r : Bool} (asked : r ≡ owns l o d) (some : Bool) {X : Bool}
+      (so_far : X ≡ invalid_ahead some i) where
+    pub invalid_turn : r ≡ true → invalid_in s (laid_at l d) ≡ true → X ≡ invalid_ahead true (i + 1)
+    unfolding all_of
+    invalid_turn mine t = so_far ∙ rw (own_ahead l o i here told asked mine, or-true, t) refl
+
+    pub invalid_skip : r ≡ false → X ≡ invalid_ahead some (i + 1)
+    invalid_skip other = so_far ∙ rw (other_ahead l o i here told asked other) refl
+
+    pub invalid_stop : r ≡ true → invalid_in s (laid_at l d) ≡ false → false ≡ X
+    unfolding all_of
+    invalid_stop mine t = sym (so_far ∙ rw (own_ahead l o i here told asked mine, or-true, t) refl)
+
+  pub invalid_end : (i : ℕ) {some X : Bool} → end_place l o ≤ i → X ≡ invalid_ahead some i → some ≡ X
+  unfolding all_of
+  invalid_end i {some} past so_far = sym (so_far ∙ rw (last_ahead l o i past, or-false, and-true) refl)
 
 -- ---- stages, moved on in place
 

@@ -201,16 +201,24 @@ fn its_state(node: &Node, m: u8) -> MessageState
     store::no_state()
 }
 
-// Whether the frame has a field, and all messages of its fields are invalid. The second is asked first, and by `all`: a loop that noted on its way whether
-// there is a field took a third longer where there are eight or more.
+// Whether the frame has a field, and all messages of its fields are invalid. By place and not by `fields`: with a loop over them the answer 23 took a third
+// longer where there are eight or more.
 fn all_invalid(node: &Node, frame: u8) -> bool
     requires { frame < 32 }
     ensures { result ≡ all_invalid (state_of node.now) (fields_of (layout_of node.now) (Owner.Frame frame)) }
 {
-    Owner::Frame(frame)
-        .fields(node)
-        .all(|x| !its_state(node, x.laid.message).is_valid())
-        && Owner::Frame(frame).fields(node).next().is_some()
+    let owner = Owner::Frame(frame);
+    let mut some = false;
+    for i in own::places_of(node, owner) {
+        let d = own::cell_at(node, owner, i);
+        if own::owns(node, owner, d) {
+            if its_state(node, store::laid_at(node, d).message).is_valid() {
+                return false;
+            }
+            some = true;
+        }
+    }
+    some
 }
 
 #[tactic(auto, unfolding(crate::specs::Calls::suppressed))]

@@ -1,68 +1,68 @@
--- `node::all_invalid` meets its contract: a test of the frame's fields is one of their records, and the frame has a field exactly if a first one comes.
--- Assumes nothing.
-use mathlib.Core.Path.{◌≡◌, refl, ap, sym, ◌∙◌}
-use mathlib.Core.Bool.{Bool, true, false, not, and-true, and-false}
-use mathlib.Core.List.{List}
-use Prim.Native.Nat.{ℕ}
-use borrow.Author.Rules.{rules}
-use borrow.Author.Tests.{tests}
-use Rattle.std.specs.declared.option.Option.{Option}
-use Rattle.std.specs.declared.option.Option.TheVariants.{None, Some}
-use Rattle.std.specs.Option.{is_some}
-use Rattle.std.specs.Iterator.{YieldsFirst}
-use Rattle.std.proofs.lemmas.Iterator.{cases_from_all}
-use Rattle.std.proofs.lemmas.Iterator.Consumers.{YieldsList-from_first}
-use Rattle.whole.specs.Whole.{all_of}
-use Rattle.store.specs.declared.Field.{Field}
-use Rattle.store.specs.Node.{Node, layout_of, state_of, node_of}
-use Rattle.own.specs.declared.Fields.{Fields}
+use mathlib.Core.Path.{◌≡◌, refl, ap, ◌∙◌}
+use mathlib.Core.Bool.{true, false}
+use Prim.Native.Nat.{◌≤◌}
+use native.Mathlib.Omega.{arith}
+use Rattle.store.specs.Node.{layout_of, state_of, laid_at}
 use Rattle.own.specs.declared.Owner.{Owner}
-use Rattle.own.specs.Ahead.{fields_left}
-use Rattle.own.specs.Own.{fields_of, stored_of}
-use Rattle.own.proofs.Ahead.{laid_stored}
-use Rattle.own.proofs.Lists.{all_answer}
-use Rattle.own.proofs.Tables.{all_map}
-use Rattle.node.specs.Calls.{is_empty, invalid_in}
-use Rattle.node.proofs.all_invalid.Goals.{After-all}
+use Rattle.own.specs.Own.{end_place, range_of}
+use Rattle.own.proofs.Ahead.{end_few, here_ahead, inside}
+use Rattle.node.specs.Calls.{invalid_in}
+use Rattle.node.proofs.Turns.{invalid_begin, invalid_turn, invalid_skip, invalid_stop, invalid_end}
 use Rattle.node.proofs.all_invalid.Goals as goal
 
-invalid : List ℕ → Field → Bool
-invalid b x = invalid_in (state_of b) x.laid
-
--- a test of the records
-all_records : (b : List ℕ) (o : Owner) → all_of (invalid b) (stored_of (node_of b) o) ≡ all_of (invalid_in (state_of b)) (fields_of (node_of b).layout o)
-unfolding invalid
-all_records b o =
-    let p = invalid_in (state_of b) in
-    let n = node_of b in
-    sym (all_map (λ (x : Field). x.laid) p (stored_of n o)) ∙ ap (all_of p) (laid_stored n o)
-
--- a first one comes
-first_comes : (n : Node) (o : Owner) (s t : Fields) (r : Option Field) → fields_left s ≡ stored_of n o → YieldsFirst fields_left s r t
-    → is_some r ≡ not (is_empty (fields_of n.layout o))
-first_comes n o s t None e h = rw (← laid_stored n o, ← e, h.0) refl
-first_comes n o s t (Some x) e h = rw (← laid_stored n o, ← e, h) refl
-
--- what `all` answered
-answered : (c : After-all) → c.all.result ≡ all_of (invalid_in (state_of c.args.node.now)) (fields_of (layout_of c.args.node.now) (Owner.Frame c.args.frame))
-unfolding invalid
-answered c =
+pub loop-i-init : goal.loop-i-init
+loop-i-init c =
     let b = c.args.node.now in
+    let places = c.into_iter-i-iterator.ensures.into_iter_gives ∙ ap range_of c.places_of-i-items.ensures.0 in
+    rw places (refl, invalid_begin (layout_of b) (Owner.Frame c.args.frame) (state_of b))
+
+pub cell_at-d-requires : goal.cell_at-d-requires
+cell_at-d-requires c =
+    let (end, (some, first, on)) = c.in-Some.ensures.steps in
+    omega (arith, some, first, c.loop-i.invariant.0, end_few (layout_of c.args.node.now) (Owner.Frame c.args.frame))
+
+pub laid_at-requires : goal.laid_at-requires
+laid_at-requires c = inside _ _ c.owns.ensures c.if-owns.true
+
+pub returns-then-is_valid : goal.returns-then-is_valid
+returns-then-is_valid c =
+    let l = layout_of c.args.node.now in
     let o = Owner.Frame c.args.frame in
-    let l = stored_of (node_of b) o in
-    all_answer (invalid b) l c.all.result
-    (cases_from_all c.all.new.self _ _ (λ x. invalid b x ≡ true) (λ x. invalid b x ≡ false) c.all.ensures.ran
-    (YieldsList-from_first (λ x. x) fields_left l c.fields.ensures) (λ x q k. search (rules, tests)) (λ x q k. search (rules, tests)))
-    ∙ all_records b o
+    let s = state_of c.args.node.now in
+    let (end, (some, first, on)) = c.in-Some.ensures.steps in
+    let here = here_ahead l o some c.loop-i.invariant.0 in
+    let valid : invalid_in s (laid_at l c.cell_at-d.result) ≡ false = rw (← c.laid_at.ensures, ← c.its_state.ensures, ← c.is_valid.ensures, c.if-is_valid.true) refl in
+    invalid_stop l o s c.loop-i.i-iterator.start here (rw first at c.cell_at-d.ensures.0) c.owns.ensures c.loop-i.some c.loop-i.invariant.1 c.if-owns.true valid
 
-pub returns-then-all : goal.returns-then-all
-returns-then-all c =
-    let n = node_of c.args.node.now in
-    let all = sym (answered (goal.at.returns-then-all c).After-all) ∙ c.if-all.true in
-    let some = c.is_some.ensures ∙ first_comes n (Owner.Frame c.args.frame) c.fields-then-all.result c.next.new.self c.next.result c.fields-then-all.ensures c.next.ensures.steps in
-    some ∙ sym (rw (all, and-true) refl)
+pub loop-i-preserved-then-owns : goal.loop-i-preserved-then-owns
+loop-i-preserved-then-owns c =
+    let l = layout_of c.args.node.now in
+    let o = Owner.Frame c.args.frame in
+    let s = state_of c.args.node.now in
+    let (end, (some, first, on)) = c.in-Some.ensures.steps in
+    let here = here_ahead l o some c.loop-i.invariant.0 in
+    let invalid : invalid_in s (laid_at l c.cell_at-d.result) ≡ true = rw (← c.laid_at.ensures, ← c.its_state.ensures, ← c.is_valid.ensures, c.if-is_valid.false) refl in
+    rw (end, on) (
+      c.loop-i.invariant.0,
+      invalid_turn l o s c.loop-i.i-iterator.start here (rw first at c.cell_at-d.ensures.0) c.owns.ensures c.loop-i.some c.loop-i.invariant.1 c.if-owns.true invalid,
+    )
 
-pub returns-else-all : goal.returns-else-all
-returns-else-all c =
-    let all = sym (answered (goal.at.returns-else-all c).After-all) ∙ c.if-all.false in
-    c.if-all.false ∙ sym (rw (all, and-false) refl)
+pub loop-i-preserved : goal.loop-i-preserved
+loop-i-preserved c =
+    let l = layout_of c.args.node.now in
+    let o = Owner.Frame c.args.frame in
+    let s = state_of c.args.node.now in
+    let (end, (some, first, on)) = c.in-Some.ensures.steps in
+    let here = here_ahead l o some c.loop-i.invariant.0 in
+    rw (end, on) (
+      c.loop-i.invariant.0,
+      invalid_skip l o s c.loop-i.i-iterator.start here (rw first at c.cell_at-d.ensures.0) c.owns.ensures c.loop-i.some c.loop-i.invariant.1 c.if-owns.false,
+    )
+
+pub returns : goal.returns
+returns c =
+    let l = layout_of c.args.node.now in
+    let o = Owner.Frame c.args.frame in
+    let (end, (none, on)) = c.in-None.ensures.steps in
+    let past : end_place l o ≤ c.loop-i.i-iterator.start = omega (arith, none, c.loop-i.invariant.0) in
+    invalid_end l o (state_of c.args.node.now) c.loop-i.i-iterator.start past c.loop-i.invariant.1
